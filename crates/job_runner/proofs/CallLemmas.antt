@@ -1,5 +1,5 @@
 -- What calls more make of a history: of a job's own calls, of what was asked, and of where the calls lead.
-use Rattle.std.proofs.Common.{◌≡◌, ◌≢◌, ℕ, ◌-◌, ◌<◌, ◌≤◌, Bool, true, not, ◌&&◌, IsTrue, get_or, unwrap_or, Result, Ok, Err, IfOk, Option, Some, List, [], ◌∷◌, ◌++◌, length, map, slice_get, zero, suc, refl, sym, ◌∙◌, ap, subst, arith, rules, append_assoc, append-nil}
+use Rattle.std.proofs.Common.{◌≡◌, ◌≢◌, ℕ, ◌-◌, ◌<◌, ◌≤◌, Bool, true, not, ◌&&◌, IsTrue, get_or, unwrap_or, Result, Ok, Err, IfOk, Option, Some, List, [], ◌∷◌, ◌++◌, length, map, slice_get, zero, suc, refl, sym, ◌∙◌, ap, arith, rules, append_assoc, append-nil}
 use Rattle.std.proofs.lemmas.Option.{slice_get-get_or}
 use Rattle.std.specs.List.{list_all}
 use Rattle.std.proofs.lemmas.Grind.{common_steps}

@@ -1,5 +1,5 @@
 -- Where the journal of calls ends: whole calls of the first calls are whole calls of all, and what was acknowledged of the first and of the others was of all.
-use Rattle.std.proofs.Common.{◌≡◌, ◌⊎◌, inl, inr, ℕ, zero, suc, ◌+◌, ◌≤◌, Some, List, [], ◌∷◌, ◌++◌, length, take, slice_get, refl, sym, ◌∙◌, ap, subst, arith, append-nil, length-append}
+use Rattle.std.proofs.Common.{◌≡◌, ◌⊎◌, inl, inr, ℕ, zero, suc, ◌+◌, ◌≤◌, List, [], ◌∷◌, ◌++◌, length, take, slice_get, refl, sym, ◌∙◌, ap, subst, arith, length-append}
 use Rattle.std.proofs.lemmas.List.{take-append-le, take_all}
 use Rattle.std.proofs.Math.Seq.{take-append-add}
 use Rattle.store_model.specs.Disk.{Areas}
@@ -34,12 +34,13 @@ none-there [] x later is = absurd cc
 none-there (b ∷ before) x later is = absurd cc
 
 switches-more : (made more : List Call) (n : ℕ) → Switches (slice_get made n) → Switches (slice_get (made ++ more) n)
-switches-more [] more n is = absurd is
+switches-more [] more zero is = absurd is
+switches-more [] more (suc n) is = absurd is
 switches-more (call ∷ made) more zero is = is
 switches-more (call ∷ made) more (suc n) is = switches-more made more n is
 
 slice_get-behind : (made more : List Call) (n : ℕ) → slice_get (made ++ more) (length made + n) ≡ slice_get more n
-slice_get-behind [] more n = ap (slice_get more) (omega arith)
+slice_get-behind [] more n = let same : 0 + n ≡ n = omega arith in ap (slice_get more) same
 slice_get-behind (call ∷ made) more n =
     let one : length (call ∷ made) + n ≡ suc (length made + n) = omega arith in
     ap (slice_get (call ∷ made ++ more)) one ∙ slice_get-behind made more n
@@ -49,7 +50,8 @@ slice_get-behind (call ∷ made) more n =
 pub acknowledged-none : (sources : List NamedSource) (start : State) (count : ℕ) → HasAcknowledged sources start [] count
 acknowledged-none sources start count = λ before call later s is runs acknowledged. absurd (none-there before call later is)
 
-pub acknowledged-least : (sources : List NamedSource) (start : State) (calls : List Call) (few many : ℕ) → few ≤ many → HasAcknowledged sources start calls few → HasAcknowledged sources start calls many
+pub acknowledged-least : (sources : List NamedSource) (start : State) (calls : List Call) (few many : ℕ) → few ≤ many → HasAcknowledged sources start calls few
+    → HasAcknowledged sources start calls many
 acknowledged-least sources start calls few many less has = λ before call later s is runs acknowledged.
     let there = has before call later s is runs acknowledged in
     omega (arith, there, less)
@@ -176,7 +178,7 @@ pub left-more : (sources : List NamedSource) (start mid : State) (book : BookSta
 left-more sources start mid book made more acknowledged outcome areas behind grows left = record {
   count = left.count;
   ends = ends-more sources start book.forced made more acknowledged left.count left.ends;
-  most = omega (arith, left.most, ap (λ (es : List Entry). length es) grows, length-append mid.entries behind);
+  most = let most : left.count ≤ length mid.entries = left.most in omega (arith, most, ap (λ (es : List Entry). length es) grows, length-append mid.entries behind);
   spells =
       subst (λ (es : List Entry). SpellEntries book.chain.first es areas)
       (sym (ap (λ (es : List Entry). take left.count es) grows ∙ take-append-le left.count mid.entries behind left.most)) left.spells;

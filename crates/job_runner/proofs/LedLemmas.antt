@@ -1,11 +1,12 @@
 -- What calls make of the library and of its journal on the disk: no call, one, and those of two runs, one after the other.
-use Rattle.std.proofs.Common.{◌≡◌, ◌⊎◌, inl, inr, ⊎_elim, ℕ, zero, suc, ◌+◌, ◌≤◌, Bool, true, false, if◌then◌else◌, IsTrue, Some, Ok, List, [], ◌∷◌, ◌++◌, length, take, refl, sym, ◌∙◌, ap, subst, arith, append_assoc, append-nil, length-append}
+use Rattle.std.proofs.Common.{◌≡◌, ◌⊎◌, inl, inr, ℕ, zero, suc, ◌+◌, ◌≤◌, Bool, true, false, if◌then◌else◌, IsTrue, List, [], ◌∷◌, ◌++◌, length, take, refl, sym, ◌∙◌, ap, subst, arith}
+use Rattle.std.proofs.Common.{append_assoc, append-nil, length-append}
 use Rattle.store_model.specs.Disk.{Areas, Disk, May, Later, Leaves}
 use Rattle.store_model.proofs.Runs.{leaves_less, leaves_now, leaves_then}
 use Rattle.entry_codec.specs.declared.entries.Entry.{Entry}
 use Rattle.journal_book.specs.Kept.{IsForcedOrFrom, SpellEntries}
 use Rattle.library_model.specs.declared.calls.Call.{Call}
-use Rattle.library_model.specs.declared.replies.Reply.TheVariants.{NoMemory}
+use Rattle.library_model.specs.declared.replies.Reply.{Reply}
 use Rattle.library_model.specs.declared.requests.Request.{Request}
 use Rattle.library_model.specs.declared.requests.Request.TheVariants.{ChangeJournal}
 use Rattle.library_model.specs.declared.sources.NamedSource.{NamedSource}
@@ -15,7 +16,7 @@ use Rattle.library_steps.specs.History.{is_running, Outcome, Standing, Failed, C
 use Rattle.deposited_entries.specs.Deposits.{switches}
 use Rattle.library_core.specs.Parts.{LibraryOver}
 use Rattle.library_core.specs.Stands.{Stands, IsAt, Goes, whole_from}
-use Rattle.library_core.specs.Fronts.{entries_at, entries_behind, IsAcknowledged, Switches, IsWhole, HasAcknowledged}
+use Rattle.library_core.specs.Fronts.{entries_at, entries_behind, IsAcknowledged, IsWhole, HasAcknowledged}
 use Rattle.job_runner.specs.Moments.{EndsWhole, IsLeft, LeavesForced, Leads}
 use Rattle.job_runner.proofs.FrontLemmas.{acknowledged-none, acknowledged-call, whole-none, whole-all, ends-both, left-more, left-behind, left-both}
 use Rattle.run_laws.proofs.AnsweredLemmas.{answered, is_unanswered, never-unanswered}
@@ -28,7 +29,8 @@ stays-later : (disk : Disk) → Later disk disk
 stays-later disk = record { moment = omega arith; faults = omega arith; parts = λ t areas before left. inl left; keeps = λ t areas before left. left }
 
 -- where a stop leaves what is forced, it leaves no call more
-none-left : {S : Type 0} (disk : S → Disk) (sources : List NamedSource) (first : LibraryOver S) (acknowledged : List Call) → LeavesForced disk first → HasAcknowledged sources first.state acknowledged first.book.forced
+none-left : {S : Type 0} (disk : S → Disk) (sources : List NamedSource) (first : LibraryOver S) (acknowledged : List Call) → LeavesForced disk first
+    → HasAcknowledged sources first.state acknowledged first.book.forced
     → (areas : Areas) → May (disk first.store) areas → IsLeft sources first.state first.book [] acknowledged (Standing first.state) areas
 none-left disk sources first acknowledged forced has areas may = record {
   count = first.book.forced;
@@ -53,7 +55,8 @@ none-led tells disk sources first alive = record {
   now = λ told forced areas may. none-left disk sources first [] forced (acknowledged-none sources first.state first.book.forced) areas may;
 }
 
-pub Leads-none : {S : Type 0} (tells : Type 0) (disk : S → Disk) (sources : List NamedSource) (first : LibraryOver S) (start : State) → Stands first start → Leads tells disk sources first first start []
+pub Leads-none : {S : Type 0} (tells : Type 0) (disk : S → Disk) (sources : List NamedSource) (first : LibraryOver S) (start : State) → Stands first start
+    → Leads tells disk sources first first start []
 Leads-none tells disk sources first start stands = subst (λ (s : State). Leads tells disk sources first first s []) stands.state (none-led tells disk sources first stands.alive)
 
 -- ---- calls, and then others
@@ -61,41 +64,45 @@ Leads-none tells disk sources first start stands = subst (λ (s : State). Leads 
 module _ {S : Type 0} (tells : Type 0) (disk : S → Disk) (sources : List NamedSource) (first mid later : LibraryOver S) (start : State) (made more : List Call)
     (led : Leads tells disk sources first mid start made) where
   module _ (between : State) (is : led.outcome ≡ Standing between) (on : Leads tells disk sources mid later between more) where
-    stands : Stands mid between
-    stands = subst (λ (o : Outcome). IsAt mid o) is led.at
+    stands-between : Stands mid between
+    stands-between = subst (λ (o : Outcome). IsAt mid o) is led.at
 
-    runs : Runs sources (Standing start) made (Standing between)
-    runs = subst (λ (o : Outcome). Runs sources (Standing start) made o) is led.runs
+    runs-between : Runs sources (Standing start) made (Standing between)
+    runs-between = subst (λ (o : Outcome). Runs sources (Standing start) made o) is led.runs
 
-    front : EndsWhole sources start first.book.forced made made mid.book.forced
-    front = led.forced stands.alive
+    front-between : EndsWhole sources start first.book.forced made made mid.book.forced
+    front-between = led.forced stands-between.alive
 
-    still : tells → LeavesForced disk first → LeavesForced disk mid
-    still told forced = led.left told forced stands.alive
+    still-forced : tells → LeavesForced disk first → LeavesForced disk mid
+    still-forced told forced = led.left told forced stands-between.alive
 
-    grown : between.entries ≡ start.entries ++ led.grows.0
-    grown = ap entries_at (sym is) ∙ led.grows.1
+    grown-between : between.entries ≡ start.entries ++ led.grows.0
+    grown-between = ap entries_at (sym is) ∙ led.grows.1
 
-    earlier : (areas : Areas) → IsLeft sources start first.book made [] led.outcome areas → IsLeft sources start first.book (made ++ more) [] on.outcome areas
-    earlier areas left =
+    earlier-left : (areas : Areas) → IsLeft sources start first.book made [] led.outcome areas → IsLeft sources start first.book (made ++ more) [] on.outcome areas
+    earlier-left areas left =
         left-more sources start between first.book made more [] on.outcome areas on.grows.0 on.grows.1
         (subst (λ (o : Outcome). IsLeft sources start first.book made [] o areas) is left)
 
     Leads-on : Leads tells disk sources first later start (made ++ more)
     Leads-on = record {
       outcome = on.outcome;
-      runs = Runs-append sources (Standing start) (Standing between) on.outcome made more runs on.runs;
+      runs = Runs-append sources (Standing start) (Standing between) on.outcome made more runs-between on.runs;
       at = on.at;
-      grows = (led.grows.0 ++ on.grows.0, on.grows.1 ∙ ap (λ (es : List Entry). es ++ on.grows.0) grown ∙ append_assoc start.entries led.grows.0 on.grows.0);
+      grows = (led.grows.0 ++ on.grows.0, on.grows.1 ∙ ap (λ (es : List Entry). es ++ on.grows.0) grown-between ∙ append_assoc start.entries led.grows.0 on.grows.0);
       receiver = on.receiver ∙ led.receiver;
-      forced = λ alive. ends-both sources start between made more runs first.book.forced mid.book.forced front later.book.forced (on.forced alive);
-      left = λ told forced alive. on.left told (still told forced) alive;
+      forced = λ alive. ends-both sources start between made more runs-between first.book.forced mid.book.forced front-between later.book.forced (on.forced alive);
+      left = λ told forced alive. on.left told (still-forced told forced) alive;
       moments = λ told forced.
           leaves_then (disk first.store) (disk mid.store) (disk later.store) (IsLeft sources start first.book (made ++ more) [] on.outcome)
-          (leaves_less (disk first.store) (disk mid.store) (IsLeft sources start first.book made [] led.outcome) (IsLeft sources start first.book (made ++ more) [] on.outcome) (led.moments told forced) earlier)
-          (leaves_less (disk mid.store) (disk later.store) (IsLeft sources between mid.book more [] on.outcome) (IsLeft sources start first.book (made ++ more) [] on.outcome) (on.moments told (still told forced))
-          (λ areas left. left-behind sources start between made more runs first.book mid.book front led.receiver on.outcome areas left));
-      now = λ told forced areas may. left-both sources start between made more runs first.book mid.book front led.receiver on.outcome areas (on.now told (still told forced) areas may);
+          (leaves_less (disk first.store) (disk mid.store) (IsLeft sources start first.book made [] led.outcome)
+          (IsLeft sources start first.book (made ++ more) [] on.outcome) (led.moments told forced) earlier-left)
+          (leaves_less (disk mid.store) (disk later.store) (IsLeft sources between mid.book more [] on.outcome)
+          (IsLeft sources start first.book (made ++ more) [] on.outcome) (on.moments told (still-forced told forced))
+          (λ areas left. left-behind sources start between made more runs-between first.book mid.book front-between led.receiver on.outcome areas left));
+      now = λ told forced areas may.
+          left-both sources start between made more runs-between first.book mid.book front-between led.receiver on.outcome areas
+          (on.now told (still-forced told forced) areas may);
     }
 
   -- a library that has failed is not called
@@ -121,7 +128,7 @@ pub record HasCalled {S : Type 0} (tells : Type 0) (disk : S → Disk) (sources 
   pub goes : (s : State) → Stands first s → Goes sources later s call
   pub moments : tells → Leaves (disk first.store) (disk later.store)
       (IsForcedOrFrom first.book.chain.first first.book.forced (whole_from call.request first.state.entries (entries_behind sources first.state call)) (entries_behind sources first.state call))
-  pub wanting : call.reply ≡ NoMemory → tells
+  pub still : later.failed ≡ false → later.state.entries ≡ first.state.entries → tells
       → Leaves (disk first.store) (disk later.store) (IsForcedOrFrom first.book.chain.first first.book.forced (length first.state.entries) first.state.entries)
   pub left : later.failed ≡ false → tells → (areas : Areas) → May (disk later.store) areas → SpellEntries later.book.chain.first (take later.book.forced later.state.entries) areas
   pub acknowledged : IsAcknowledged sources first.state call → later.book.waiting ≡ 0
@@ -138,7 +145,8 @@ switches-is _ is = absurd cc
 -- an acknowledged call was answered
 not-answered : (sources : List NamedSource) (s : State) (call : Call) → is_unanswered call.reply ≡ true → IsAcknowledged sources s call → ⊥
 not-answered sources s call unanswered acknowledged =
-    never-unanswered acknowledged.done.reply (answered sources s.entries (memory_of s) call.job call.timestamp call.request acknowledged.done acknowledged.is) call.reply unanswered acknowledged.answered
+    never-unanswered acknowledged.done.reply
+    (answered sources s.entries (memory_of s) call.job call.timestamp call.request acknowledged.done acknowledged.is) call.reply unanswered acknowledged.answered
 
 -- a number and the two behind it
 three : {P : Type 0} (n count : ℕ) → n ≤ count → count ≤ n + 2 → (count ≡ n → P) → (count ≡ n + 1 → P) → (count ≡ n + 2 → P) → P
@@ -176,7 +184,7 @@ module _ {S : Type 0} (tells : Type 0) (disk : S → Disk) (sources : List Named
             let least : length s.entries ≤ count = subst (λ (b : Bool). (if b then length s.entries else length behind) ≤ count) switching from in
             let request : call.request ≡ ChangeJournal = switches-is call.request switching in
             let few : length behind ≤ length s.entries + 2 =
-                subst (λ (r : Request). length (step sources s call.job call.timestamp r).0.entries ≤ length s.entries + 2) (sym request) (switch-two sources s call.job call.timestamp) in
+            subst (λ (r : Request). length (step sources s call.job call.timestamp r).0.entries ≤ length s.entries + 2) (sym request) (switch-two sources s call.job call.timestamp) in
             three (length s.entries) count least (omega (arith, most, few))
             (λ none. subst (IsWhole sources s (call ∷ [])) (sym none) (whole-none sources s (call ∷ [])))
             (λ one. record { made = 0; few = omega arith; outcome = Standing s; runs = refl; count_is = inr (one, switching) })
@@ -193,7 +201,7 @@ module _ {S : Type 0} (tells : Type 0) (disk : S → Disk) (sources : List Named
         ];
         least = elim some.which [
           | inl before ↦ omega (arith, before)
-          | inr from ↦ omega (arith, at-least (switches call.request), from, forced.few)
+          | inr from ↦ omega (arith, at-least, from, forced.few)
         ];
         has = acknowledged-none sources s some.count;
       };
@@ -201,9 +209,12 @@ module _ {S : Type 0} (tells : Type 0) (disk : S → Disk) (sources : List Named
       spells = subst (λ (es : List Entry). SpellEntries first.book.chain.first (take some.count es) areas) (sym is) some.spells;
     }
       where
-        at-least : (b : Bool) → length s.entries ≤ (if b then length s.entries else length behind)
-        at-least true = omega arith
-        at-least false = omega (arith, grown)
+        at : (b : Bool) → length s.entries ≤ (if b then length s.entries else length behind)
+        at true = omega arith
+        at false = omega (arith, grown)
+
+        at-least : length s.entries ≤ whole_from call.request s.entries behind
+        at-least = at (switches call.request)
 
     moments-within : tells → LeavesForced disk first → Leaves (disk first.store) (disk later.store) (IsLeft sources s first.book (call ∷ []) [] outcome)
     moments-within told forced =
@@ -220,11 +231,11 @@ module _ {S : Type 0} (tells : Type 0) (disk : S → Disk) (sources : List Named
 
     -- what the step deposits is there, where the call was acknowledged
     deposited : (c : Comes sources s call (Standing t)) → IsAcknowledged sources s call → length behind ≤ length t.entries
-    deposited (inl is) acknowledged = let same = ap (λ p. length p.0.entries) is in omega (arith, same)
+    deposited (inl is) acknowledged = let same : length t.entries ≡ length behind = ap (λ (p : State × Reply). length p.0.entries) is in omega (arith, same)
     deposited (inr (same, wanting, needs)) acknowledged = absurd (not-answered sources s call (ap is_unanswered wanting) acknowledged)
 
     grows-standing : (c : Comes sources s call (Standing t)) → (more : List Entry) × (t.entries ≡ s.entries ++ more)
-    grows-standing (inl is) = (called.grows.0, ap (λ p. p.0.entries) is ∙ called.grows.1)
+    grows-standing (inl is) = (called.grows.0, ap (λ (p : State × Reply). p.0.entries) is ∙ called.grows.1)
     grows-standing (inr (same, wanting, needs)) = ([], ap (λ (x : State). x.entries) same ∙ sym (append-nil s.entries))
 
     forced-standing : EndsWhole sources s first.book.forced (call ∷ []) (call ∷ []) later.book.forced
@@ -235,15 +246,17 @@ module _ {S : Type 0} (tells : Type 0) (disk : S → Disk) (sources : List Named
       ];
       least = called.least stands.alive;
       has = acknowledged-call sources s call later.book.forced
-          (λ acknowledged. omega (arith, deposited comes acknowledged, called.acknowledged acknowledged, called.all stands.alive, entries_are));
+          (λ acknowledged.
+          let there : length behind ≤ length t.entries = deposited comes acknowledged in
+          omega (arith, there, called.acknowledged acknowledged, called.all stands.alive, entries_are));
     }
 
     moments-standing : (c : Comes sources s call (Standing t)) → tells → LeavesForced disk first
         → Leaves (disk first.store) (disk later.store) (IsLeft sources s first.book (call ∷ []) [] (Standing t))
-    moments-standing (inl is) told forced = moments-within (Standing t) ran (ap (λ p. p.0.entries) is) told forced
+    moments-standing (inl is) told forced = moments-within (Standing t) ran (ap (λ (p : State × Reply). p.0.entries) is) told forced
     moments-standing (inr (same, wanting, needs)) told forced =
         leaves_less (disk first.store) (disk later.store) (IsForcedOrFrom first.book.chain.first first.book.forced (length s.entries) s.entries)
-        (IsLeft sources s first.book (call ∷ []) [] (Standing t)) (called.wanting wanting told)
+        (IsLeft sources s first.book (call ∷ []) [] (Standing t)) (called.still stands.alive (ap (λ (x : State). x.entries) (stands.state ∙ same)) told)
         (λ areas some. subst (λ (x : State). IsLeft sources s first.book (call ∷ []) [] (Standing x) areas) (sym same) (record {
           count = some.count;
           ends = record {
@@ -300,7 +313,8 @@ module _ {S : Type 0} (tells : Type 0) (disk : S → Disk) (sources : List Named
 
     now-failed : tells → LeavesForced disk first → (areas : Areas) → May (disk later.store) areas → IsLeft sources s first.book (call ∷ []) (call ∷ []) (Failed entries) areas
     now-failed told forced areas may =
-        let left = leaves_now (disk first.store) (disk later.store) (IsLeft sources s first.book (call ∷ []) [] (Failed entries)) (moments-within (Failed entries) ran-failed comes.1 told forced) areas may in
+        let moments = moments-within (Failed entries) ran-failed comes.1 told forced in
+        let left = leaves_now (disk first.store) (disk later.store) (IsLeft sources s first.book (call ∷ []) [] (Failed entries)) moments areas may in
         record {
           count = left.count;
           ends = record {

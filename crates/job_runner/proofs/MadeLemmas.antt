@@ -1,11 +1,8 @@
 -- What more calls make of those that a session made before: they lead on, and their timestamps follow.
-use Rattle.std.proofs.Common.{◌≡◌, ◌⊎◌, inl, inr, ℕ, ◌≤◌, true, false, List, [], ◌∷◌, ◌++◌, refl, sym, ◌∙◌, ap, subst, arith, append_assoc, append-nil}
+use Rattle.std.proofs.Common.{◌≡◌, inl, inr, ℕ, ◌≤◌, true, List, [], ◌∷◌, ◌++◌, refl, sym, ◌∙◌, ap, subst, arith, append_assoc, append-nil}
 use Rattle.store_model.specs.Disk.{Disk}
 use Rattle.store_model.specs.Faults.{Rose}
 use Rattle.library_model.specs.declared.calls.Call.{Call}
-use Rattle.library_steps.specs.State.{State}
-use Rattle.library_core.specs.Parts.{LibraryOver}
-use Rattle.library_core.specs.Stands.{Stands}
 use Rattle.input_scripts.specs.declared.Scripts.{Scripts}
 use Rattle.job_runner.specs.Asked.{asked, AreAsked}
 use Rattle.job_runner.specs.Made.{AreGiven}
@@ -14,7 +11,8 @@ use Rattle.job_runner.specs.Session.{SessionOver, HasMade}
 use Rattle.job_runner.proofs.CallLemmas.{AreAsked-append}
 use Rattle.job_runner.proofs.LedLemmas.{Leads-append, Leads-call, Leads-none, HasCalled}
 
-AreGiven-append : {C : Type 0} (gives : C → ℕ → C → Type 0) (clock mid last : C) (made more : List Call) → AreGiven gives clock mid made → AreGiven gives mid last more → AreGiven gives clock last (made ++ more)
+AreGiven-append : {C : Type 0} (gives : C → ℕ → C → Type 0) (clock mid last : C) (made more : List Call) → AreGiven gives clock mid made → AreGiven gives mid last more
+    → AreGiven gives clock last (made ++ more)
 AreGiven-append {C = C} gives clock mid last [] more front back = subst (λ (c : C). AreGiven gives c last more) front back
 AreGiven-append gives clock mid last (call ∷ made) more front back =
     (front.0, front.1, AreGiven-append gives front.0 mid last made more front.2 back)
@@ -37,21 +35,21 @@ HasMade-more tells disk gives first mid later made more front back = record {
   legal = λ start stands.
       Leads-append tells disk first.scripts.sources first.library mid.library later.library start made more (front.legal start stands)
       (λ between on. subst (λ (scripts : Scripts). Leads tells disk scripts.sources mid.library later.library between more) front.scripts (back.legal between on))
-      (λ failed. let rest = back.stays failed in (rest.0, ap (λ s. s.library) rest.1));
+      (λ failed. let rest = back.stays failed in (rest.0, ap (λ (s : SessionOver _ _). s.library) rest.1));
   asked = AreAsked-append first.scripts.scripts first.calls made more front.asked
       (subst (λ (calls : List Call). AreAsked first.scripts.scripts calls more) front.calls (subst (λ (scripts : Scripts). AreAsked scripts.scripts mid.calls more) front.scripts back.asked));
   given = AreGiven-append gives first.clock mid.clock later.clock made more front.given back.given;
   scripts = back.scripts ∙ front.scripts;
   stays = λ failed.
       let before = front.stays failed in
-      let behind = back.stays (ap (λ s. s.library.failed) before.1 ∙ failed) in
+      let behind = back.stays (ap (λ (s : SessionOver _ _). s.library.failed) before.1 ∙ failed) in
       (ap (λ (calls : List Call). calls ++ more) before.0 ∙ behind.0, behind.1 ∙ before.1);
   faults = omega (arith, front.faults, back.faults);
   cause = λ failed. elim (back.cause failed) [
     | inl before ↦ elim (front.cause before) [
-        | inl earlier ↦ inl earlier
-        | inr rose ↦ inr (rose-later (disk first.library.store).faults (disk mid.library.store).faults (disk later.library.store).faults rose back.faults)
-      ]
+      | inl earlier ↦ inl earlier
+      | inr rose ↦ inr (rose-later (disk first.library.store).faults (disk mid.library.store).faults (disk later.library.store).faults rose back.faults)
+    ]
     | inr rose ↦ inr (rose-earlier (disk first.library.store).faults (disk mid.library.store).faults (disk later.library.store).faults front.faults rose)
   ];
 }

@@ -1,6 +1,6 @@
 -- What calls have made of the disk of a library whose journal was forced whole when they began.
-use Rattle.std.proofs.Common.{◌≡◌, ◌⊎◌, inl, inr, ℕ, ◌≤◌, List, [], length, take, map, refl, sym, ◌∙◌, ap, subst, arith, ◌++◌}
-use Rattle.store_model.specs.Disk.{Areas, Disk, May, Leaves}
+use Rattle.std.proofs.Common.{◌≡◌, inl, inr, ℕ, List, [], length, take, sym, ◌∙◌, ap, subst, arith}
+use Rattle.store_model.specs.Disk.{Areas, Disk, May}
 use Rattle.store_model.proofs.Runs.{leaves_less}
 use Rattle.entry_codec.specs.declared.entries.Entry.{Entry}
 use Rattle.receiver_chain.specs.declared.numbers.TheConstants.{FIRST_RECEIVER}
@@ -33,10 +33,10 @@ front-left sources start book calls acknowledged outcome areas all receiver left
 -- from such a start a stop leaves whole calls at every moment, and one now has left all that were acknowledged
 pub HasRun-made : {S C : Type 0} (tells : Type 0) (disk : S → Disk) (gives : C → ℕ → C → Type 0) (first later : SessionOver S C) (start : State) (calls : List Call)
     → StandsForced tells disk first.library start → HasMade tells disk gives first later calls → HasRun tells disk first.scripts.sources first.library later.library start calls
-HasRun-made tells disk gives first later start calls forced made = of (made.legal start forced.stands)
+HasRun-made tells disk gives first later start calls forced made = from-led (made.legal start forced.stands)
   where
-    of : Leads tells disk first.scripts.sources first.library later.library start calls → HasRun tells disk first.scripts.sources first.library later.library start calls
-    of led = record {
+    from-led : Leads tells disk first.scripts.sources first.library later.library start calls → HasRun tells disk first.scripts.sources first.library later.library start calls
+    from-led led = record {
       outcome = led.outcome;
       runs = led.runs;
       at = led.at;

@@ -35,7 +35,7 @@ use Rattle.library_core.specs.Puts.{HasAnswered, HasPut, HasTaken, answer_given,
 use Rattle.library_core.specs.Stands.{whole_from}
 use Rattle.library_core.proofs.ChangeLaws.{Keeps, change-keeps, gives_up-none}
 use Rattle.library_core.proofs.JournalLemmas.{behind-book, counted, more-book}
-use Rattle.library_core.proofs.OutcomeLemmas.{IsPlain, after-entries, behind-is, done-answered, fault-answered, no_memory-answered, refused-answered, stopped-put}
+use Rattle.library_core.proofs.OutcomeLemmas.{IsPlain, after-entries, behind-is, done-answered, fault-answered, no_memory-answered, refused-answered, still-of, stopped-put}
 
 pub ok-is : {A E P : Type 0} (r : Result A E) → IsOk r → OnOk r P → P
 ok-is (Ok a) is p = p
@@ -149,6 +149,7 @@ module _ (tells : Type 0) (old : Disk) (before roomy : BookState) (s : State) (s
         done-put fine = record {
           journaled = λ alive. done-journaled fine;
           moments = done-moments;
+          still = λ alive same told. still-of old new before.chain.first before.forced r s.entries Behind (after s c).entries (its-behind ∙ sym its-after) same (done-moments told);
           least = λ alive. done-least fine;
           whole = λ alive. done-whole fine;
           receiver = taken.receiver ∙ more.receiver;
@@ -160,6 +161,7 @@ module _ (tells : Type 0) (old : Disk) (before roomy : BookState) (s : State) (s
         fault-put bad = record {
           journaled = λ alive. absurd (false≢true (sym alive));
           moments = done-moments;
+          still = λ alive same told. absurd (false≢true (sym alive));
           least = λ alive. absurd (false≢true (sym alive));
           whole = λ alive. absurd (false≢true (sym alive));
           receiver = taken.receiver ∙ more.receiver;
@@ -191,11 +193,6 @@ module _ (tells : Type 0) (old : Disk) (before roomy : BookState) (s : State) (s
     asked-place t count (Err stopped) answers is_count fine = absurd (false≢true fine)
 
     module _ (stay : DepositsStay) (short : AreShort sources) (new : Disk) (later : BookState) where
-      -- of a request that was done, the entries were taken; else nothing was called
-      abbrev Fate : State → ℕ → Result Reply Stop → Result (Unit {0}) StoreFault → Type 1
-      Fate t count result put =
-          (IsOk result → HasTaken tells old new roomy later r (drop count t.entries) put) × (IsErr result → IsOk put) × (IsErr result → later ≡ roomy) × (IsErr result → (P : Disk → Type 0) → P old → P new)
-
       its-taken : (t : State) (count : ℕ) (c : Change) (done : Wanted ≡ Ok c) (put : Result (Unit {0}) StoreFault) → count ≡ length s.entries → t ≡ after s c → HasTaken tells old new roomy later r (drop count t.entries) put
           → HasTaken tells old new roomy later r c.entries put
       its-taken t count c done put is_count leads taken = subst (λ (l : List Entry). HasTaken tells old new roomy later r l put) (its-entries t count c done is_count leads) taken
@@ -205,32 +202,33 @@ module _ (tells : Type 0) (old : Disk) (before roomy : BookState) (s : State) (s
           subst (λ (u : State). HasPut tells old new before later s u r Behind false) (sym same)
           (subst (λ (b : BookState). HasPut tells old new before b s s r Behind false) (sym book) (disk (λ d. HasPut tells old d before roomy s s r Behind false) (stopped-put tells old before roomy s sources job timestamp r running built sound is more plain)))
 
-      pub ended-put : (t : State) (count : ℕ) (result : Result Reply Stop) (put : Result (Unit {0}) StoreFault) → Answers s t result Wanted → count ≡ length s.entries → Fate t count result put
+      pub ended-put : (t : State) (count : ℕ) (result : Result Reply Stop) (put : Result (Unit {0}) StoreFault) → Answers s t result Wanted → count ≡ length s.entries
+          → (IsOk result → HasTaken tells old new roomy later r (drop count t.entries) put) → (IsErr result → IsOk put) → (IsErr result → later ≡ roomy) → (IsErr result → (P : Disk → Type 0) → P old → P new)
           → HasPut tells old new before later s t r Behind (answer_given put result).1
-      ended-put t count (Ok reply) (Ok nothing) (c, done, given, leads) is_count fate =
+      ended-put t count (Ok reply) (Ok nothing) (c, done, given, leads) is_count taken nothing_called same_book same_disk =
           subst (λ (u : State). HasPut tells old new before later s u r Behind false) (sym leads)
-          (done-put c done places made stay short new later (Ok nothing) (its-taken t count c done (Ok nothing) is_count leads (fate.0 refl)) refl)
-      ended-put t count (Ok reply) (Err fault) (c, done, given, leads) is_count fate =
+          (done-put c done places made stay short new later (Ok nothing) (its-taken t count c done (Ok nothing) is_count leads (taken refl)) refl)
+      ended-put t count (Ok reply) (Err fault) (c, done, given, leads) is_count taken nothing_called same_book same_disk =
           subst (λ (u : State). HasPut tells old new before later s u r Behind true) (sym leads)
-          (fault-put c done places made stay short new later (Err fault) (its-taken t count c done (Err fault) is_count leads (fate.0 refl)) refl)
-      ended-put t count (Err stop.NoMemory) (Ok nothing) same is_count fate = stopped-later t same (fate.2 refl) (fate.3 refl)
-      ended-put t count (Err (stop.Refused reply)) (Ok nothing) (same, refused) is_count fate = stopped-later t same (fate.2 refl) (fate.3 refl)
-      ended-put t count (Err stopped) (Err fault) answers is_count fate = absurd (false≢true (fate.1 refl))
+          (fault-put c done places made stay short new later (Err fault) (its-taken t count c done (Err fault) is_count leads (taken refl)) refl)
+      ended-put t count (Err stop.NoMemory) (Ok nothing) same is_count taken nothing_called same_book same_disk = stopped-later t same (same_book refl) (same_disk refl)
+      ended-put t count (Err (stop.Refused reply)) (Ok nothing) (same, refused) is_count taken nothing_called same_book same_disk = stopped-later t same (same_book refl) (same_disk refl)
+      ended-put t count (Err stopped) (Err fault) answers is_count taken nothing_called same_book same_disk = absurd (false≢true (nothing_called refl))
 
       pub ended-answered : AnswersStaySound → (t : State) (count : ℕ) (result : Result Reply Stop) (put : Result (Unit {0}) StoreFault) → Answers s t result Wanted → (IsErrOf result stop.NoMemory → IsTrue (needs_memory r))
-          → count ≡ length s.entries → Fate t count result put → HasAnswered sources s t later (As (answer_given put result).0) (answer_given put result).1
-      ended-answered stays t count (Ok reply) (Ok nothing) (c, done, given, leads) needs is_count fate =
+          → count ≡ length s.entries → (IsOk result → HasTaken tells old new roomy later r (drop count t.entries) put) → (IsErr result → IsOk put) → (IsErr result → later ≡ roomy) → HasAnswered sources s t later (As (answer_given put result).0) (answer_given put result).1
+      ended-answered stays t count (Ok reply) (Ok nothing) (c, done, given, leads) needs is_count taken nothing_called same_book =
           subst (λ (u : State). HasAnswered sources s u later (As reply) false) (sym leads)
           (subst (λ (x : Reply). HasAnswered sources s (after s c) later (As x) false) given
           (done-answered tells old before roomy s sources job timestamp r running built sound is more plain c done stays later
-          (done-forced c done places made stay short new later (Ok nothing) (its-taken t count c done (Ok nothing) is_count leads (fate.0 refl)) refl)))
-      ended-answered stays t count (Ok reply) (Err fault) (c, done, given, leads) needs is_count fate =
+          (done-forced c done places made stay short new later (Ok nothing) (its-taken t count c done (Ok nothing) is_count leads (taken refl)) refl)))
+      ended-answered stays t count (Ok reply) (Err fault) (c, done, given, leads) needs is_count taken nothing_called same_book =
           subst (λ (u : State). HasAnswered sources s u later (As replies.StoreFault) true) (sym leads)
           (fault-answered tells old before roomy s sources job timestamp r running built sound is more plain c done stays later)
-      ended-answered stays t count (Err stop.NoMemory) (Ok nothing) same needs is_count fate =
+      ended-answered stays t count (Err stop.NoMemory) (Ok nothing) same needs is_count taken nothing_called same_book =
           subst (λ (u : State). HasAnswered sources s u later (As replies.NoMemory) false) (sym same)
-          (subst (λ (b : BookState). HasAnswered sources s s b (As replies.NoMemory) false) (sym (fate.2 refl)) (no_memory-answered tells old before roomy s sources job timestamp r running built sound is more plain roomy (needs refl)))
-      ended-answered stays t count (Err (stop.Refused reply)) (Ok nothing) (same, refused) needs is_count fate =
+          (subst (λ (b : BookState). HasAnswered sources s s b (As replies.NoMemory) false) (sym (same_book refl)) (no_memory-answered tells old before roomy s sources job timestamp r running built sound is more plain roomy (needs refl)))
+      ended-answered stays t count (Err (stop.Refused reply)) (Ok nothing) (same, refused) needs is_count taken nothing_called same_book =
           subst (λ (u : State). HasAnswered sources s u later (As reply) false) (sym same)
-          (subst (λ (b : BookState). HasAnswered sources s s b (As reply) false) (sym (fate.2 refl)) (refused-answered tells old before roomy s sources job timestamp r running built sound is more plain roomy reply refused))
-      ended-answered stays t count (Err stopped) (Err fault) answers needs is_count fate = absurd (false≢true (fate.1 refl))
+          (subst (λ (b : BookState). HasAnswered sources s s b (As reply) false) (sym (same_book refl)) (refused-answered tells old before roomy s sources job timestamp r running built sound is more plain roomy reply refused))
+      ended-answered stays t count (Err stopped) (Err fault) answers needs is_count taken nothing_called same_book = absurd (false≢true (nothing_called refl))

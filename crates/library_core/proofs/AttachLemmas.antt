@@ -1,6 +1,7 @@
 -- CHGJRN: from what became of the journal on the disk, and then in memory, to the call.
-use Rattle.std.proofs.Common.{◌≡◌, ◌≤◌, ◌<◌, ◌⊎◌, inl, inr, ℕ, ◌+◌, ◌*◌, ◌^◌, true, false, IsTrue, List, [], ◌++◌, length, length-append, Result, Ok, Err, refl, sym, ◌∙◌, ap, subst, arith}
+use Rattle.std.proofs.Common.{◌≡◌, ◌≤◌, ◌<◌, ◌⊎◌, inl, inr, ℕ, ◌+◌, ◌*◌, ◌^◌, Bool, true, false, IsTrue, List, [], ◌++◌, length, length-append, Result, Ok, Err, refl, sym, ◌∙◌, ap, subst, arith}
 use Rattle.std.specs.List.{AllByRecursion}
+use Rattle.std.specs.Prelude.{IfOk, IsErrOf, IsOk, OnErr}
 use Rattle.std.proofs.lemmas.Bool.{false≢true}
 use Rattle.store_model.specs.Disk.{Disk, Leaves}
 use Rattle.store_model.specs.Faults.{Rose}
@@ -11,13 +12,14 @@ use Rattle.entry_codec.specs.Drafts.{numbered}
 use Rattle.entry_codec.specs.Spelling.{HasSpelling}
 use Rattle.receiver_chain.specs.Chain.{attached_of}
 use Rattle.receiver_chain.specs.declared.numbers.TheConstants.{MAX_RECEIVER}
-use Rattle.journal_book.specs.Book.{BookState, HasMoreRoom, Holds, last_of, next_of}
+use Rattle.journal_book.specs.Book.{BookState, HasMoreRoom, Holds, IsHeld, last_of, next_of}
 use Rattle.journal_book.specs.Kept.{IsForcedOrFrom}
 use Rattle.journal_book.specs.Switch.{tied_by}
 use Rattle.journal_book.proofs.Deposits.{more_holds}
 use Rattle.library_model.specs.declared.calls.Call.{Call}
 use Rattle.library_model.specs.declared.replies.Reply.{Reply}
 use Rattle.library_model.specs.declared.replies.Reply.TheVariants as replies
+use Rattle.library_model.specs.declared.requests.Request.{Request}
 use Rattle.library_model.specs.declared.requests.Request.TheVariants.{ChangeJournal}
 use Rattle.library_model.specs.declared.sources.NamedSource.{NamedSource}
 use Rattle.library_steps.specs.State.{Memory, State, job_at, memory_of}
@@ -37,7 +39,7 @@ use Rattle.library_core.specs.Laws.{DepositsStay, EntriesAreSpelled, HasPlaces, 
 use Rattle.library_core.specs.Puts.{HasAnswered, HasPut}
 use Rattle.library_core.specs.Stands.{whole_from}
 use Rattle.library_core.proofs.JournalLemmas.{counted, more-book}
-use Rattle.library_core.proofs.OutcomeLemmas.{IsPlain, after-entries, behind-is, done-answered, no_memory-answered, ok-same, refused-answered, stopped-put, untouched-answered}
+use Rattle.library_core.proofs.OutcomeLemmas.{IsPlain, after-entries, behind-is, done-answered, no_memory-answered, ok-same, refused-answered, still-of, stopped-put, untouched-answered}
 
 does-plain : {A : Type 0} (effect : A → Change) (plan : Result A Reply) (m : Memory) (c : Change) → does effect plan ≡ Ok c → ((a : A) → IsPlain m (effect a)) → IsPlain m c
 does-plain effect (Ok a) m c is plain = subst (λ (x : Change). IsPlain m x) (ok-same (effect a) c is) (plain a)
@@ -55,6 +57,36 @@ attach-refused : (sources : List NamedSource) (s : State) (job timestamp : ℕ) 
 unfolding change
 attach-refused sources s job timestamp reply plan = ap (λ (p : Result ℕ Reply). does (attach_change (memory_of s) job timestamp) p) plan
 
+-- room that was made before
+pub room-put : (tells : Type 0) (old new : Disk) (before roomy after : BookState) (s t : State) (r : Request) (behind : List Entry) (failed : Bool) → HasMoreRoom before roomy → HasPut tells old new roomy after s t r behind failed
+    → HasPut tells old new before after s t r behind failed
+room-put tells old new before roomy after s t r behind failed more put = record {
+  journaled = put.journaled;
+  moments = λ told.
+      subst (λ (n : ℕ). Leaves old new (IsForcedOrFrom before.chain.first n (whole_from r s.entries behind) behind)) more.forced
+      (subst (λ (n : ℕ). Leaves old new (IsForcedOrFrom n roomy.forced (whole_from r s.entries behind) behind)) more.receiver (put.moments told));
+  still = λ alive same told.
+      subst (λ (n : ℕ). Leaves old new (IsForcedOrFrom before.chain.first n (length s.entries) s.entries)) more.forced
+      (subst (λ (n : ℕ). Leaves old new (IsForcedOrFrom n roomy.forced (length s.entries) s.entries)) more.receiver (put.still alive same told));
+  least = λ alive. let least = put.least alive in omega (arith, least, more.forced);
+  whole = λ alive. elim (put.whole alive) [
+    | inl same ↦ inl (same ∙ more.forced)
+    | inr all ↦ inr all
+  ];
+  receiver = put.receiver ∙ more.receiver;
+  faults = put.faults;
+  cause = put.cause;
+}
+
+pub err-is : {A E P : Type 0} (r : Result A E) (e : E) → IsErrOf r e → OnErr r P → P
+err-is (Ok a) e is p = absurd cc
+err-is (Err x) e is p = p
+
+-- the number that is given is that of the receiver that is attached then
+pub one-number : {E : Type 0} (r : Result ℕ E) (a b : ℕ) → IsOk r → IfOk r (λ n. n ≡ a) → IfOk r (λ n. n ≡ b) → b ≡ a
+one-number (Ok n) a b fine first second = sym second ∙ first
+one-number (Err e) a b fine first second = absurd (false≢true fine)
+
 module _ (tells : Type 0) (old : Disk) (before roomy : BookState) (s : State) (sources : List NamedSource) (job timestamp : ℕ) (running : IsTrue (is_running (job_at job s.jobs))) (sound : IsSound s)
     (is : IsJournaled tells old before s) (more : HasMoreRoom before roomy) where
   abbrev Behind : List Entry
@@ -65,6 +97,9 @@ module _ (tells : Type 0) (old : Disk) (before roomy : BookState) (s : State) (s
 
   roomy-of : IsBookOf roomy s
   roomy-of = more-book before roomy s more is.book_of
+
+  pub ties-held : tells → IsHeld roomy old
+  ties-held told = ∣ (s.entries, more_holds before roomy s.entries old more (is.holds told)) ∣₁
 
   -- it was refused, or there was no memory in memory
   pub unready-put : HasPut tells old old before roomy s s ChangeJournal Behind false
@@ -134,6 +169,7 @@ module _ (tells : Type 0) (old : Disk) (before roomy : BookState) (s : State) (s
       fault-put rose = record {
         journaled = λ alive. absurd (false≢true (sym alive));
         moments = tied-moments;
+        still = λ alive same told. absurd (false≢true (sym alive));
         least = λ alive. absurd (false≢true (sym alive));
         whole = λ alive. absurd (false≢true (sym alive));
         receiver = receiver ∙ more.receiver;
@@ -150,7 +186,8 @@ module _ (tells : Type 0) (old : Disk) (before roomy : BookState) (s : State) (s
 
         -- there was no memory for it
         module _ (same_next : next_of later ≡ next_of roomy) (same_forced : (later.forced ≡ roomy.forced) ⊎ (later.waiting ≡ 0)) (same_number : attached_of later.chain ≡ attached_of roomy.chain)
-            (held : tells → (entries : List Entry) → Holds roomy entries old → Holds later entries new) where
+            (held : tells → (entries : List Entry) → Holds roomy entries old → Holds later entries new)
+            (wanting : tells → (entries : List Entry) → Holds roomy entries old → Leaves old new (IsForcedOrFrom roomy.chain.first roomy.forced (length entries) entries)) where
           short-book : IsBookOf later s
           short-book = record {
             first = first ∙ roomy-of.first;
@@ -182,6 +219,10 @@ module _ (tells : Type 0) (old : Disk) (before roomy : BookState) (s : State) (s
           short-put = record {
             journaled = λ alive. record { book_of = short-book; may = is.may; holds = λ told. held told s.entries (more_holds before roomy s.entries old more (is.holds told)) };
             moments = tied-moments;
+            still = λ alive same told.
+                subst (λ (n : ℕ). Leaves old new (IsForcedOrFrom before.chain.first n (length s.entries) s.entries)) more.forced
+                (subst (λ (n : ℕ). Leaves old new (IsForcedOrFrom n roomy.forced (length s.entries) s.entries)) more.receiver
+                (wanting told s.entries (more_holds before roomy s.entries old more (is.holds told))));
             least = λ alive. short-least;
             whole = λ alive. short-whole;
             receiver = receiver ∙ more.receiver;
@@ -193,7 +234,7 @@ module _ (tells : Type 0) (old : Disk) (before roomy : BookState) (s : State) (s
           short-answered = no_memory-answered tells old before roomy s sources job timestamp ChangeJournal running refl sound is more (attach-plain sources s job timestamp) later refl
 
         -- the next receiver is attached on the disk, and then in memory
-        module _ (stay : DepositsStay) (given : ℕ) (given_is : given ≡ attached_of roomy.chain + 1) (attached : given ≡ attached_of later.chain) (none : later.waiting ≡ 0) (all : later.forced ≡ roomy.forced + roomy.waiting + 2)
+        module _ (stay : DepositsStay) (number_is : attached_of later.chain ≡ attached_of roomy.chain + 1) (none : later.waiting ≡ 0) (all : later.forced ≡ roomy.forced + roomy.waiting + 2)
             (switched : tells → (entries : List Entry) → Holds roomy entries old → Holds later (entries ++ tied_by ending beginning (next_of roomy)) new) where
           two-more : length (after s Done).entries ≡ length s.entries + 2
           two-more = ap (λ (l : List Entry). length l) ties-after ∙ length-append s.entries Done.entries
@@ -203,7 +244,7 @@ module _ (tells : Type 0) (old : Disk) (before roomy : BookState) (s : State) (s
             first = first ∙ roomy-of.first;
             next = omega (arith, first, none, all, roomy-of.next, two-more);
             receiver = receiver ∙ roomy-of.receiver;
-            attached = omega (arith, attached, given_is, roomy-of.attached, next);
+            attached = omega (arith, number_is, roomy-of.attached, next);
             little = omega (arith, no_longer, roomy-of.little);
             places = lasts.behind later.chain.room enough;
           }
@@ -222,6 +263,9 @@ module _ (tells : Type 0) (old : Disk) (before roomy : BookState) (s : State) (s
           its-put = record {
             journaled = λ alive. record { book_of = tied-book; may = stay s Done does-it tt refl is.may; holds = tied-holds };
             moments = tied-moments;
+            still = λ alive same told.
+                still-of old new before.chain.first before.forced ChangeJournal s.entries Behind (after s Done).entries
+                (behind-is tells old before roomy s sources job timestamp ChangeJournal running refl sound is more (attach-plain sources s job timestamp) Done done ∙ sym ties-after) same (tied-moments told);
             least = λ alive. tied-least;
             whole = λ alive. inr tied-whole;
             receiver = receiver ∙ more.receiver;

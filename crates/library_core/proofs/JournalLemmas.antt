@@ -1,5 +1,6 @@
 -- A library's journal and its book: what a stop leaves of it, and what more room makes of it.
-use Rattle.std.proofs.Common.{◌≡◌, ◌≤◌, inl, refl, ℕ, ◌+◌, ◌*◌, List, ◌∷◌, [], ◌++◌, length, take, length-append, sym, ◌∙◌, ap, subst, arith}
+use Rattle.std.proofs.Common.{◌≡◌, ◌≤◌, inl, refl, ℕ, ◌+◌, ◌*◌, List, ◌∷◌, [], ◌++◌, length, take, length-append, Result, Ok, Err, OnOk, sym, ◌∙◌, ap, subst, arith}
+use Rattle.std.specs.Prelude.{OnErr}
 use Rattle.std.proofs.lemmas.List.{take-append-le}
 use Rattle.store_model.specs.Disk.{Areas, Disk, Leaves, May}
 use Rattle.store_model.proofs.Runs.{leaves_stays}
@@ -101,3 +102,11 @@ begun-journaled begin places tells disk old new s name few more made is =
       may = begin s name (omega (arith, few)) is.may;
       holds = λ told. more_holds old new s.entries disk more (is.holds told);
     }
+
+-- by whether there was memory for it
+pub begun-by : {E : Type 0} → DepositsBegin → PlacesBegin → (tells : Type 0) (disk : Disk) (old new : BookState) (s t : State) (name : List ℕ) (r : Result ℕ E) → length s.jobs ≤ 4294967294 → HasMoreRoom old new
+    → OnOk r (2 * length s.jobs + 1 ≤ new.chain.room) → OnOk r (t ≡ begun s (name ∷ [])) → OnErr r (t ≡ s) → IsJournaled tells disk old s → IsJournaled tells disk new t
+begun-by begin places tells disk old new s t name (Ok n) few more made is_begun unchanged is =
+    subst (λ (u : State). IsJournaled tells disk new u) (sym is_begun) (begun-journaled begin places tells disk old new s name few more made is)
+begun-by begin places tells disk old new s t name (Err e) few more made is_begun unchanged is =
+    subst (λ (u : State). IsJournaled tells disk new u) (sym unchanged) (more-journaled tells disk old new s more is)

@@ -1,10 +1,13 @@
 -- What holds of a call whatever is asked: its journal goes on behind the entries that were there; where nothing is done it stays; and what is answered.
-use Rattle.std.proofs.Common.{◌≡◌, inl, inr, ℕ, ◌-◌, true, false, IsTrue, List, [], ◌++◌, drop, append-nil, Result, Ok, Err, refl, sym, ◌∙◌, ap, arith}
+use Rattle.std.proofs.Common.{◌≡◌, inl, inr, ℕ, ◌-◌, Bool, true, false, if◌then◌else◌, IsTrue, List, [], ◌++◌, length, drop, append-nil, Result, Ok, Err, refl, sym, ◌∙◌, ap, subst, arith}
 use Rattle.std.specs.Prelude.{IsErrOf}
 use Rattle.std.proofs.lemmas.Bool.{false≢true}
-use Rattle.store_model.specs.Disk.{Disk}
+use Rattle.store_model.specs.Disk.{Disk, Leaves}
 use Rattle.entry_codec.specs.declared.entries.Entry.{Entry}
 use Rattle.journal_book.specs.Book.{BookState, HasMoreRoom}
+use Rattle.journal_book.specs.Kept.{IsForcedOrFrom}
+use Rattle.journal_book.proofs.Forcing.{none_exactly}
+use Rattle.deposited_entries.specs.Deposits.{switches}
 use Rattle.built_requests.specs.Built.{is_built}
 use Rattle.library_model.specs.NeedsMemory.{needs_memory}
 use Rattle.library_model.specs.declared.calls.Call.{Call}
@@ -27,6 +30,21 @@ use Rattle.library_core.specs.Puts.{HasAnswered, HasPut}
 use Rattle.library_core.specs.Stands.{whole_from}
 use Rattle.library_core.proofs.CallLemmas.{may-answer, runs-answered, sound-answered}
 use Rattle.library_core.proofs.JournalLemmas.{moment-still, more-journaled}
+
+-- ---- where the entries stay
+
+whole-still : (r : Request) (entries : List Entry) → whole_from r entries entries ≡ length entries
+whole-still r entries = by (switches r)
+  where
+    by : (b : Bool) → (if b then length entries else length entries) ≡ length entries
+    by true = refl
+    by false = refl
+
+pub still-of : (old new : Disk) (first forced : ℕ) (r : Request) (entries behind after : List Entry) → behind ≡ after → after ≡ entries
+    → Leaves old new (IsForcedOrFrom first forced (whole_from r entries behind) behind) → Leaves old new (IsForcedOrFrom first forced (length entries) entries)
+still-of old new first forced r entries behind after is same leaves =
+    subst (λ (n : ℕ). Leaves old new (IsForcedOrFrom first forced n entries)) (whole-still r entries)
+    (subst (λ (l : List Entry). Leaves old new (IsForcedOrFrom first forced (whole_from r entries l) l)) (is ∙ same) leaves)
 
 -- ---- what a change leaves of the entries
 
@@ -85,6 +103,7 @@ module _ (tells : Type 0) (old : Disk) (before roomy : BookState) (s : State) (s
   stopped-put = record {
     journaled = λ alive. more-journaled tells old before roomy s more is;
     moments = λ told. moment-still before s.entries front.0 Behind (whole_from r s.entries Behind) old (is.holds told) front.1;
+    still = λ alive same told. none_exactly before s.entries old (is.holds told);
     least = λ alive. omega (arith, more.forced);
     whole = λ alive. inl more.forced;
     receiver = more.receiver;

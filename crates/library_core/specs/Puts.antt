@@ -1,5 +1,5 @@
 -- What a call makes of the library's journal: its entries come behind all others, or the store is found at fault. (Our own.)
-use Rattle.std.specs.Prelude.{◌≡◌, ◌⊎◌, ℕ, ◌+◌, ◌<◌, ◌≤◌, ◌||◌, Bool, true, false, if◌then◌else◌, Result, Ok, Err, List, ◌++◌, length, OnOk, IsErr, IsTrue}
+use Rattle.std.specs.Prelude.{◌≡◌, ◌⊎◌, ℕ, ◌+◌, ◌<◌, ◌≤◌, ◌||◌, Bool, true, false, if◌then◌else◌, Result, Ok, Err, List, ◌++◌, length, OnOk, IsErr}
 use Rattle.store_model.specs.Disk.{Disk, Leaves}
 use Rattle.store_model.specs.Faults.{Rose}
 use Rattle.entry_codec.specs.declared.entries.Entry.{Entry}
@@ -63,6 +63,8 @@ answer_given (Err fault) done = (reply.StoreFault, true)
 pub record HasPut (tells : Type 0) (old new : Disk) (before after : BookState) (s t : State) (request : Request) (behind : List Entry) (failed : Bool) : Type 0 where
   pub journaled : failed ≡ false → IsJournaled tells new after t
   pub moments : tells → Leaves old new (IsForcedOrFrom before.chain.first before.forced (whole_from request s.entries behind) behind)
+  -- where the call has left the entries as they were, it leaves no others
+  pub still : failed ≡ false → t.entries ≡ s.entries → tells → Leaves old new (IsForcedOrFrom before.chain.first before.forced (length s.entries) s.entries)
   pub least : failed ≡ false → before.forced ≤ after.forced
   pub whole : failed ≡ false → (after.forced ≡ before.forced) ⊎ (after.forced ≡ length t.entries)
   pub receiver : after.chain.first ≡ before.chain.first

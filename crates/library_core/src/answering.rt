@@ -1,14 +1,12 @@
 //! How a request is answered where the journal stands on a disk: room for its block is made first, and what it deposits is forced behind it. `library.rt`
 //! has the library.
-ghost use Rattle.std.specs.Prelude.{◌≡◌, ◌+◌, ◌*◌, ◌≤◌, ◌<◌, ◌||◌, ℕ, true, false, Ok, List, drop, length, IfOk, IsErr, IsErrOf, IsOk, IsTrue, OnOk};
-ghost use Rattle.entry_codec.specs.declared.entries.Entry.{Entry};
+ghost use Rattle.std.specs.Prelude.{◌≡◌, ◌+◌, ◌*◌, ◌≤◌, ◌<◌, true, false, Ok, List, drop, length, IfOk, IsErr, IsOk, IsTrue, OnOk};
 ghost use Rattle.journal_book.specs.Book.{HasMoreRoom, IsHeld};
 ghost use Rattle.kept_journal.specs.Journals.{MayWait};
 ghost use Rattle.answered_sources.specs.Answered.{AreAnswered};
 ghost use Rattle.built_requests.specs.Built.{is_built};
 ghost use Rattle.deposited_entries.specs.Deposits.{AreShort, switches};
 ghost use Rattle.block_places.specs.Dues.{has_entries};
-ghost use Rattle.forced_calls.specs.Forced.{is_forced};
 ghost use Rattle.joint_state.specs.Sound.{IsSound};
 ghost use Rattle.library_model.specs.NeedsMemory.{needs_memory};
 ghost use Rattle.library_model.specs.declared.requests.Request.TheVariants.{ChangeJournal};
@@ -34,7 +32,6 @@ use library_model::replies::Reply;
 use library_model::requests::Request;
 use library_model::sources::Sources;
 use library_parts::{Contents, Stop};
-use library_steps::limits::LAST_RECEIVER;
 use receiver_chain::ChainFault;
 use sound_histories::each_call_leaves_a_sound_library;
 use std::alloc::AllocError;
@@ -95,7 +92,7 @@ fn answer_other<S: Store>(
     if !make_room(journal, contents.jobs_begun(), request) {
         return (Reply::NoMemory, false);
     }
-    let before = kept_entries(contents).len();
+    let before = kept_count(contents);
     let done = perform(contents, job, timestamp, sources, request);
     let put = put_done(contents, journal, store, before, request, &done);
     given(put, done)
@@ -136,6 +133,13 @@ fn kept_entries(contents: &Contents) -> &[Entry]
     }
 }
 
+/// How many entries are kept.
+fn kept_count(contents: &Contents) -> usize
+    ensures { result ≡ length contents.now.state.entries }
+{
+    kept_entries(contents).len()
+}
+
 /// Puts the entries behind so many, where the request was done.
 fn put_done<S: Store>(
     contents: &Contents,
@@ -174,7 +178,7 @@ fn put_behind<S: Store>(
     requires little { length journal.old.buffered < MUCH }
     requires may { MayWait journal.old (drop before contents.now.state.entries) }
     requires place { places_taken request.now (drop before contents.now.state.entries) ≤ journal.old.chain.room }
-    ensures taken { HasTaken S.tells (S.disk store.old) (S.disk store.new) journal.old journal.new request.now (drop before contents.now.state.entries) result }
+    ensures { HasTaken S.tells (S.disk store.old) (S.disk store.new) journal.old journal.new request.now (drop before contents.now.state.entries) result }
 {
     let all = kept_entries(contents);
     put_entries(journal, store, &all[before..], request)
@@ -191,16 +195,23 @@ fn put_entries<S: Store>(
     requires little { length journal.old.buffered < MUCH }
     requires may { MayWait journal.old entries.now }
     requires place { places_taken request.now entries.now ≤ journal.old.chain.room }
-    ensures taken { HasTaken S.tells (S.disk store.old) (S.disk store.new) journal.old journal.new request.now entries.now result }
+    ensures { HasTaken S.tells (S.disk store.old) (S.disk store.new) journal.old journal.new request.now entries.now result }
 {
-    let forced = is_forced(request, entries);
-    if forced || has_entries(entries) {
-        journal.put_call(store, entries, forced)
+    if are_put(request, entries) {
+        journal.put_call(store, entries, is_forced(request, entries))
     } else {
         Ok(())
     }
 }
 
+/// Whether a call with these entries is forced or has some.
+fn are_put(request: &Request, entries: &[Entry]) -> bool
+    ensures { result ≡ are_put request.now entries.now }
+{
+    is_forced(request, entries) || has_entries(entries)
+}
+
+/// Whether there are some.
 fn has_entries(entries: &[Entry]) -> bool
     ensures { result ≡ has_entries entries.now }
 {
@@ -245,12 +256,35 @@ fn attach_receiver<S: Store>(
     ensures put { (sources : List NamedSource) → HasPut S.tells (S.disk store.old) (S.disk store.new) journal.old journal.new contents.old.state contents.new.state ChangeJournal (entries_behind sources contents.old.state (record { job = job; timestamp = timestamp; request = ChangeJournal; reply = result.0 })) result.1 }
     ensures answered { (sources : List NamedSource) → HasAnswered sources contents.old.state contents.new.state journal.new (record { job = job; timestamp = timestamp; request = ChangeJournal; reply = result.0 }) result.1 }
 {
+    match ready_to_attach(contents, journal) {
+        Ok(number) => switch_receivers(contents, journal, store, job, timestamp, number),
+        Err(stop) => (reply_of(Err(stop)), false),
+    }
+}
+
+/// Attaches the receiver with this number, on the disk and then in memory.
+fn switch_receivers<S: Store>(
+    contents: &mut Contents,
+    journal: &mut KeptJournal,
+    store: &mut S,
+    job: u32,
+    timestamp: u64,
+    number: u32,
+) -> (Reply, bool)
+    requires running { IsTrue (is_running (job_at job contents.old.state.jobs)) }
+    requires sound { IsSound contents.old.state }
+    requires journaled { IsJournaled S.tells (S.disk store.old) journal.old contents.old.state }
+    requires plan { attach_plan (memory_of contents.old.state) ≡ Ok number }
+    requires next { number ≡ contents.old.state.receivers.attached + 1 }
+    requires few { number ≤ LAST_RECEIVER }
+    requires left { (memory_of contents.old.state).last_entry ≤ LAST_SEQUENCE }
+    requires room { 2 ≤ contents.old.room.entries }
+    requires places { 2 * length contents.old.state.jobs + 1 ≤ journal.old.chain.room }
+    ensures put { (sources : List NamedSource) → HasPut S.tells (S.disk store.old) (S.disk store.new) journal.old journal.new contents.old.state contents.new.state ChangeJournal (entries_behind sources contents.old.state (record { job = job; timestamp = timestamp; request = ChangeJournal; reply = result.0 })) result.1 }
+    ensures answered { (sources : List NamedSource) → HasAnswered sources contents.old.state contents.new.state journal.new (record { job = job; timestamp = timestamp; request = ChangeJournal; reply = result.0 }) result.1 }
+{
     each_call_leaves_a_sound_library();
     journal_lasts();
-    let number = match ready_to_attach(contents, journal) {
-        Ok(number) => number,
-        Err(stop) => return (reply_of(Err(stop)), false),
-    };
     let (ending, beginning) = attach_drafts(contents, job, timestamp, number);
     match journal.switch(contents.alloc(), store, ending, beginning) {
         Ok(_) => (apply_attach(contents, job, timestamp, number), false),
@@ -261,14 +295,14 @@ fn attach_receiver<S: Store>(
 
 /// What CHGJRN is refused by, or the number of the receiver that it attaches. Room is made for its entries and for the block that waits.
 fn ready_to_attach(contents: &mut Contents, journal: &mut KeptJournal) -> Result<u32, Stop>
-    ensures plan { Gives result (attach_plan (memory_of contents.old.state)) }
-    ensures next { IfOk result (λ number. number ≡ contents.old.state.receivers.attached + 1) }
+    ensures plan { Gives result (attach_plan (memory_of contents.new.state)) }
+    ensures next { IfOk result (λ number. number ≡ contents.new.state.receivers.attached + 1) }
     ensures few { IfOk result (λ number. number ≤ LAST_RECEIVER) }
-    ensures left { IfOk result (λ number. (memory_of contents.old.state).last_entry ≤ LAST_SEQUENCE) }
+    ensures left { IfOk result (λ number. (memory_of contents.new.state).last_entry ≤ LAST_SEQUENCE) }
     ensures state { contents.new.state ≡ contents.old.state }
     ensures room { OnOk result (2 ≤ contents.new.room.entries) }
     ensures same { HasMoreRoom journal.old journal.new }
-    ensures places { OnOk result (2 * length contents.old.state.jobs + 1 ≤ journal.new.chain.room) }
+    ensures places { OnOk result (2 * length contents.new.state.jobs + 1 ≤ journal.new.chain.room) }
 {
     let number = plan_attach(contents)?;
     prepare_attach(contents)?;

@@ -1,8 +1,9 @@
 //! The library over a store, and the one call on it. What each request does is asked for in `dispatch.rt`; how its entries come to the journal on
 //! the disk stands in `answering.rt`.
-ghost use Rattle.std.specs.Prelude.{◌≡◌, ◌≢◌, ◌⊎◌, ℕ, true, false, ◌+◌, ◌<◌, ◌≤◌, ◌∷◌, [], ◌++◌, length, take, IsTrue, IfOk, OnOk, OnErr};
+ghost use Rattle.std.specs.Prelude.{◌≡◌, ◌≢◌, ◌⊎◌, ℕ, true, false, ◌+◌, ◌*◌, ◌<◌, ◌≤◌, ◌∷◌, [], ◌++◌, length, take, IsTrue, IfOk, OnOk, OnErr};
 ghost use Rattle.store_model.specs.Disk.{Areas, May, Leaves};
 ghost use Rattle.store_model.specs.Faults.{Rose};
+ghost use Rattle.journal_book.specs.Book.{HasMoreRoom};
 ghost use Rattle.journal_book.specs.Kept.{IsForcedOrFrom, SpellEntries};
 ghost use Rattle.answered_sources.specs.Answered.{AreAnswered};
 ghost use Rattle.built_requests.specs.Built.{is_built};
@@ -103,9 +104,7 @@ impl<S: Store> Library<S> {
         ensures receiver { self.new.book.chain.first ≡ self.old.book.chain.first }
     {
         journal_lasts();
-        // A place for the block by which the job's end is forced.
-        reserve_for(&mut self.journal, self.contents.jobs_begun())?;
-        self.contents.begin_job(*name)
+        begin(&mut self.contents, &mut self.journal, *name)
     }
 
     /// Hands the store back.
@@ -120,6 +119,19 @@ impl<S: Store> Library<S> {
         } = self;
         store
     }
+}
+
+/// Begins a job, with a place for the block by which its end is forced.
+fn begin(contents: &mut Contents, journal: &mut KeptJournal, name: Name) -> Result<u32, AllocError>
+    requires { length contents.old.state.jobs < 4294967295 }
+    ensures number { IfOk result (λ n. n ≡ length contents.old.state.jobs + 1) }
+    ensures begun { OnOk result (contents.new.state ≡ record contents.old.state { jobs = contents.old.state.jobs ++ new_job name ∷ [] }) }
+    ensures unchanged { OnErr result (contents.new.state ≡ contents.old.state) }
+    ensures same { HasMoreRoom journal.old journal.new }
+    ensures room { OnOk result (2 * length contents.old.state.jobs + 1 ≤ journal.new.chain.room) }
+{
+    reserve_for(journal, contents.jobs_begun())?;
+    contents.begin_job(name)
 }
 
 /// Answers one request of a job, at a time. After a store fault the library has failed: open it again.
@@ -144,6 +156,7 @@ pub fn call<S: Store>(
     ensures faults { (S.disk library.old.store).faults ≤ (S.disk library.new.store).faults }
     // What a stop leaves within the call, and behind it.
     ensures moments { S.tells → Leaves (S.disk library.old.store) (S.disk library.new.store) (IsForcedOrFrom library.old.book.chain.first library.old.book.forced (whole_from request.now library.old.state.entries (entries_behind sources.now library.old.state (record { job = job; timestamp = timestamp; request = request.now; reply = result }))) (entries_behind sources.now library.old.state (record { job = job; timestamp = timestamp; request = request.now; reply = result }))) }
+    ensures still { library.new.failed ≡ false → library.new.state.entries ≡ library.old.state.entries → S.tells → Leaves (S.disk library.old.store) (S.disk library.new.store) (IsForcedOrFrom library.old.book.chain.first library.old.book.forced (length library.old.state.entries) library.old.state.entries) }
     ensures left { library.new.failed ≡ false → S.tells → (areas : Areas) → May (S.disk library.new.store) areas → SpellEntries library.new.book.chain.first (take library.new.book.forced library.new.state.entries) areas }
     ensures acknowledged { IsAcknowledged sources.now library.old.state (record { job = job; timestamp = timestamp; request = request.now; reply = result }) → library.new.book.waiting ≡ 0 }
     ensures least { library.new.failed ≡ false → library.old.book.forced ≤ library.new.book.forced }

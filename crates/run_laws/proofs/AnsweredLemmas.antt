@@ -4,7 +4,10 @@ use Rattle.entry_codec.specs.declared.entries.Entry.{Entry}
 use Rattle.library_model.specs.declared.replies.Reply.{Reply}
 use Rattle.library_model.specs.declared.replies.Reply.TheVariants.{NoMemory, StoreFault}
 use Rattle.library_model.specs.declared.requests.Request.{Request}
-use Rattle.library_model.specs.declared.requests.Request.TheVariants.{CreatePhysicalFile, CreateLogicalFile, DeleteFile, AddMember, ClearMember, ReorganizeMember, StartJournaling, EndJournaling, ChangeJournal, DeleteReceiver, Checkpoint, DisplayJournal, ApplyChanges, RemoveChanges, StartCommitment, EndCommitment, Commit, Rollback, OpenFile, CloseFile, SetLowerLimit, SetGreaterThan, Read, ReadPrior, ReadEqual, ReadPriorEqual, Chain, Write, Update, Delete, Unlock, EndJob}
+use Rattle.library_model.specs.declared.requests.Request.TheVariants.{CreatePhysicalFile, CreateLogicalFile, DeleteFile, AddMember, ClearMember, ReorganizeMember, StartJournaling}
+use Rattle.library_model.specs.declared.requests.Request.TheVariants.{EndJournaling, ChangeJournal, DeleteReceiver, Checkpoint, DisplayJournal, ApplyChanges, RemoveChanges, StartCommitment}
+use Rattle.library_model.specs.declared.requests.Request.TheVariants.{EndCommitment, Commit, Rollback, OpenFile, CloseFile, SetLowerLimit, SetGreaterThan, Read, ReadPrior, ReadEqual}
+use Rattle.library_model.specs.declared.requests.Request.TheVariants.{ReadPriorEqual, Chain, Write, Update, Delete, Unlock, EndJob}
 use Rattle.library_model.specs.declared.sources.NamedSource.{NamedSource}
 use Rattle.library_steps.specs.State.{Memory}
 use Rattle.library_steps.specs.Change.{Change, does}
@@ -64,4 +67,4 @@ pub never-unanswered : (reply : Reply) → is_unanswered reply ≡ false → (ot
 never-unanswered reply answers other unanswered same = absurd (clash (is_unanswered reply) answers (subst (λ (r : Reply). is_unanswered r ≡ true) same unanswered))
   where
     clash : (b : Bool) → b ≡ false → b ≡ true → ⊥
-    clash b no yes_ = cc
+    clash b answers unanswered = cc

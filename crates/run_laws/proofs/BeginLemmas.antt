@@ -1,6 +1,7 @@
 -- Jobs that begin leave a sound library in which none had begun sound: without a job it has no lock, and a job that has done nothing owes nothing.
 use Rattle.std.proofs.Common.{◌≡◌, ℕ, zero, suc, ◌+◌, ◌-◌, ◌==◌, if◌then◌else◌, Bool, true, false, IsSome, List, [], ◌∷◌, ◌++◌, map, Some, None, slice_get, refl, sym, ◌∙◌, ap, subst, arith}
 use Rattle.std.specs.List.{AllByRecursion}
+use Rattle.std.proofs.lemmas.Option.{slice_get_past}
 use Rattle.library_model.specs.Named.{Named}
 use Rattle.lock_table.specs.declared.lock.Lock.{Lock}
 use Rattle.lock_table.specs.Lock.{is_open}
@@ -51,7 +52,7 @@ none-at number jobs none = ap (λ (js : List JobState). or_new (job_at number js
   where
     by : (b : Bool) → or_new (if b then None else slice_get [] (number - 1)) ≡ new_job []
     by true = refl
-    by false = refl
+    by false = ap or_new (slice_get_past [] (number - 1) (omega arith))
 
 -- a lock is held through an open, or kept by a job that is under commitment control
 no-lock : (m : Memory) (lock : Lock) → m.jobs ≡ [] → LockStands m lock → ⊥

@@ -1,5 +1,6 @@
 -- A call puts its entries behind those of the journal, and none of these goes: no receiver is given up as long as no checkpoint was saved.
-use Rattle.std.proofs.Common.{◌≡◌, ℕ, ◌+◌, ◌-◌, ◌≤◌, ◌==◌, ◌||◌, nat_lt, not, Bool, true, false, cond, IfSome, Option, Some, None, List, [], ◌∷◌, ◌++◌, Result, Ok, Err, length, drop, refl, sym, ◌∙◌, ap, subst, arith, append-nil, length-append}
+use Rattle.std.proofs.Common.{◌≡◌, ℕ, ◌+◌, ◌-◌, ◌≤◌, ◌==◌, ◌||◌, nat_lt, not, Bool, true, false, cond, IfSome, Option, Some, None, List, [], ◌∷◌, ◌++◌, Result, Ok, Err, length, drop, refl}
+use Rattle.std.proofs.Common.{sym, ◌∙◌, ap, subst, arith, append-nil, length-append}
 use Rattle.std.specs.List.{find}
 use Rattle.std.specs.Option.{option_map, option_map_or}
 use Rattle.std.proofs.lemmas.Bool.Decides.{nat_tests}
@@ -11,17 +12,20 @@ use Rattle.library_model.specs.declared.replies.Missing.TheVariants.{Receiver}
 use Rattle.library_model.specs.declared.replies.Reply.{Reply}
 use Rattle.library_model.specs.declared.replies.Reply.TheVariants.{NoSuchName, StillNeeded}
 use Rattle.library_model.specs.declared.requests.Request.{Request}
-use Rattle.library_model.specs.declared.requests.Request.TheVariants.{CreatePhysicalFile, CreateLogicalFile, DeleteFile, AddMember, ClearMember, ReorganizeMember, StartJournaling, EndJournaling, ChangeJournal, DeleteReceiver, Checkpoint, DisplayJournal, ApplyChanges, RemoveChanges, StartCommitment, EndCommitment, Commit, Rollback, OpenFile, CloseFile, SetLowerLimit, SetGreaterThan, Read, ReadPrior, ReadEqual, ReadPriorEqual, Chain, Write, Update, Delete, Unlock, EndJob}
+use Rattle.library_model.specs.declared.requests.Request.TheVariants.{CreatePhysicalFile, CreateLogicalFile, DeleteFile, AddMember, ClearMember, ReorganizeMember, StartJournaling}
+use Rattle.library_model.specs.declared.requests.Request.TheVariants.{EndJournaling, ChangeJournal, DeleteReceiver, Checkpoint, DisplayJournal, ApplyChanges, RemoveChanges, StartCommitment}
+use Rattle.library_model.specs.declared.requests.Request.TheVariants.{EndCommitment, Commit, Rollback, OpenFile, CloseFile, SetLowerLimit, SetGreaterThan, Read, ReadPrior, ReadEqual}
+use Rattle.library_model.specs.declared.requests.Request.TheVariants.{ReadPriorEqual, Chain, Write, Update, Delete, Unlock, EndJob}
 use Rattle.library_model.specs.declared.sources.NamedSource.{NamedSource}
 use Rattle.library_steps.specs.Change.{Change, changed, does}
 use Rattle.library_steps.specs.ChangeRecord.{update_change}
 use Rattle.library_steps.specs.ChangeRecord as records
-use Rattle.library_steps.specs.Commitment.{changes_of, rollback_change, taken_back}
+use Rattle.library_steps.specs.Commitment.{changes_of, taken_back}
 use Rattle.library_steps.specs.EndJob as jobs
 use Rattle.library_steps.specs.Receivers.{attach_change, attach_plan, give_up_plan, is_kept, is_needed, is_number, last_in, next_receiver}
 use Rattle.library_steps.specs.Refusals.{◌>>=◌, refuse_if}
 use Rattle.library_steps.specs.SlotChange.{NewSlot, change_made, cycle_for, touched, with_slot, with_undo}
-use Rattle.library_steps.specs.State.{CycleState, Memory, State, job_of, memory_of, with_entries, with_status}
+use Rattle.library_steps.specs.State.{CycleState, Memory, State, job_of, memory_of, with_status}
 use Rattle.library_steps.specs.Step.{change, step}
 use Rattle.library_steps.specs.WriteRecord.{write_call, write_change}
 
@@ -92,7 +96,7 @@ module _ (s : State) (unsaved : s.checkpoint ≡ 0) (numbered : AreNumbered (s.g
       (with_status new.opened.member touched (with_slot new.opened.member new.rrn new.slot m))
 
   gone-stays : (sources : List NamedSource) (job timestamp : ℕ) (request : Request) (done : Change) → change sources s.entries m job timestamp request ≡ Ok done → Stays done
-  unfolding change, give_up_plan
+  unfolding change give_up_plan
   gone-stays sources job timestamp (CreatePhysicalFile args) done h = does-each _ _ done Stays h (λ x is. refl)
   gone-stays sources job timestamp (CreateLogicalFile args) done h = does-each _ _ done Stays h (λ x is. refl)
   gone-stays sources job timestamp (DeleteFile args) done h = does-each _ _ done Stays h (λ x is. refl)

@@ -1,5 +1,5 @@
 -- Calls of a legal history lead to one state, and what they lead to is joined and split where one call ends.
-use Rattle.std.proofs.Common.{◌≡◌, ℕ, ◌⊎◌, inl, inr, Bool, true, false, IsTrue, List, [], ◌∷◌, ◌++◌, Result, Ok, Err, refl, sym, ◌∙◌, ap, subst}
+use Rattle.std.proofs.Common.{◌≡◌, inl, inr, true, false, List, [], ◌∷◌, ◌++◌, Result, Ok, Err, refl, sym, ◌∙◌, ap, subst}
 use Rattle.entry_codec.specs.declared.entries.Entry.{Entry}
 use Rattle.library_model.specs.declared.calls.Call.{Call}
 use Rattle.library_model.specs.declared.replies.Reply.{Reply}
@@ -59,7 +59,8 @@ Runs-append sources (Standing s) mid to (call ∷ made) more front back =
 Runs-append sources (Failed entries) mid to (call ∷ made) more front back = absurd front
 
 -- and where the first of them led
-pub Runs-split : (sources : List NamedSource) (from to : Outcome) (made more : List Call) → Runs sources from (made ++ more) to → (mid : Outcome) × Runs sources from made mid × Runs sources mid more to
+pub Runs-split : (sources : List NamedSource) (from to : Outcome) (made more : List Call) → Runs sources from (made ++ more) to
+    → (mid : Outcome) × Runs sources from made mid × Runs sources mid more to
 Runs-split sources from to [] more runs = (from, refl, runs)
 Runs-split sources (Standing s) to (call ∷ made) more runs =
     let rest = Runs-split sources runs.1 to made more runs.3 in

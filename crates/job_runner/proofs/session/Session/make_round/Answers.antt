@@ -3,7 +3,7 @@ use Rattle.library_model.specs.declared.calls.Call.{Call}
 use Rattle.job_runner.specs.declared.session.Stepped.TheVariants as stepped
 use Rattle.job_runner.specs.Ended.{has_ended}
 use Rattle.job_runner.specs.Turns.{AreInRound}
-use Rattle.job_runner.proofs.RunLemmas.{HasBegun-call, HasBegun-same, round-whole, round-cut, all-nearer, ended-more, still-open}
+use Rattle.job_runner.proofs.RunLemmas.{HasBegun-none, HasBegun-call, HasBegun-same, round-whole, round-cut, all-nearer, ended-more, still-open}
 use Rattle.job_runner.proofs.TurnLemmas.{AreInRound-call, AreInRound-past}
 use Rattle.job_runner.proofs.session.Session.make_round.Goals.{in-Called, in-Ended}
 use Rattle.job_runner.proofs.session.Session.make_round.Goals as goal
@@ -63,3 +63,10 @@ pub returns-else-called-clause-made : goal.returns-else-called-clause-made
 returns-else-called-clause-made g c =
     let at_end : c.loop-job.job ≡ length c.args.self.now.scripts.scripts = search rules in
     round-whole g.S.Store.tells g.S.Store.disk g.C.Clock.gives c.args.self.now c.loop-job.self (length c.args.self.now.scripts.scripts) c.loop-job.job stepped.Ended at_end c.loop-job.invariant.made
+
+pub loop-job-init : goal.loop-job-init
+loop-job-init g c = record {
+  ended = λ quiet job from until. absurd (omega (arith, from, until));
+  nearer = omega arith;
+  made = HasBegun-none g.S.Store.tells g.S.Store.disk g.C.Clock.gives c.args.self.now (AreInRound (length c.args.self.now.scripts.scripts) 0 c.args.self.now.calls);
+}

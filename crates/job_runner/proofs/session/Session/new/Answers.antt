@@ -7,7 +7,8 @@ use Rattle.job_runner.proofs.session.Session.new.Goals as goal
 pub invariant_of-result : goal.invariant_of-result
 invariant_of-result g c =
     let begun_jobs = on_no_err c.begin_jobs.result (sym c.is_err.ensures.value ∙ c.if-is_err.false) c.begin_jobs.ensures.begun in
-    let state : c.begin_jobs.new.library.state ≡ begun c.args.library.state c.args.scripts.names = begun_jobs.state ∙ ap (begun c.args.library.state) c.as_slice.ensures in
+    let state : c.begin_jobs.new.library.state ≡ begun c.args.library.state c.args.scripts.names =
+    ◌∙◌ {b = begun c.args.library.state c.as_slice.result.now} begun_jobs.state (ap (begun c.args.library.state) c.as_slice.ensures) in
     let sound = subst IsSound (sym state) (c.jobs_begin_in_a_sound_library.ensures c.args.library.state c.args.scripts.names c.requires.sound c.requires.none) in
     let jobs = ap (λ (s : State). s.jobs) state ∙ ap (λ (js : List JobState). js ++ map new_job c.args.scripts.names) c.requires.none in
     let enough = on_no_err c.reserve.result (sym c.is_err-2.ensures.value ∙ c.if-is_err-2.false) c.reserve.ensures.room in

@@ -4,7 +4,7 @@ use Rattle.library_model.specs.declared.calls.Call.{Call}
 use Rattle.job_runner.specs.declared.session.Stepped.TheVariants as stepped
 use Rattle.job_runner.specs.Ended.{has_ended}
 use Rattle.job_runner.specs.Turns.{AreByTurns}
-use Rattle.job_runner.proofs.RunLemmas.{HasDone, HasBegun-call, HasBegun-same, HasBegun-end, HasBegun-done, HasBegun-scripts, still-open}
+use Rattle.job_runner.proofs.RunLemmas.{HasDone, HasBegun-none, HasBegun-call, HasBegun-same, HasBegun-end, HasBegun-done, HasBegun-scripts, still-open}
 use Rattle.job_runner.proofs.TurnLemmas.{AreByTurns-call, AreByTurns-past}
 use Rattle.job_runner.proofs.session.Session.run_by_turns.Goals.{in-Called, in-Ended}
 use Rattle.job_runner.proofs.session.Session.run_by_turns.Goals as goal
@@ -59,3 +59,6 @@ returns-clause-made g c =
     let ran = subst (λ (n : ℕ). HasDone g.S.Store.tells g.S.Store.disk g.C.Clock.gives c.loop-turn.self c.run_to_ends.new.self (AreByTurns n [] c.loop-turn.self.calls)) same c.run_to_ends.ensures.made in
     HasBegun-done g.S.Store.tells g.S.Store.disk g.C.Clock.gives c.args.self.now c.loop-turn.self c.run_to_ends.new.self whole rest c.loop-turn.invariant
     (subst (λ (ts : List ℕ). HasDone g.S.Store.tells g.S.Store.disk g.C.Clock.gives c.loop-turn.self c.run_to_ends.new.self (AreByTurns jobs ts c.loop-turn.self.calls)) (sym none) ran)
+
+pub loop-turn-init : goal.loop-turn-init
+loop-turn-init g c = HasBegun-none g.S.Store.tells g.S.Store.disk g.C.Clock.gives c.args.self.now (AreByTurns (length c.args.self.now.scripts.scripts) c.args.turns.now c.args.self.now.calls)

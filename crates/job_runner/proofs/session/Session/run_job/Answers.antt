@@ -4,7 +4,7 @@ use Rattle.job_runner.specs.declared.session.Stepped.TheVariants as stepped
 use Rattle.job_runner.specs.Ended.{calls_of, ends_once, has_ended}
 use Rattle.job_runner.specs.Turns.{AreByTurns}
 use Rattle.job_runner.proofs.CallLemmas.{calls_of-append_other}
-use Rattle.job_runner.proofs.RunLemmas.{HasBegun-call, HasBegun-end, still-open}
+use Rattle.job_runner.proofs.RunLemmas.{HasBegun-none, HasBegun-call, HasBegun-end, still-open}
 use Rattle.job_runner.proofs.TurnLemmas.{AreByTurns-first}
 use Rattle.job_runner.proofs.session.Session.run_job.Goals as goal
 
@@ -48,3 +48,9 @@ returns-in-NoMemory-clause-made g c =
     let whole = AreByTurns jobs [] c.args.self.now.calls in
     let rest = AreByTurns jobs [] c.loop.self.calls in
     HasBegun-end g.S.Store.tells g.S.Store.disk g.C.Clock.gives c.args.self.now c.loop.self c.step_job.new.self whole rest c.loop.invariant.made (c.in-NoMemory.ensures.unchanged (λ e. cc)) tt
+
+pub loop-init : goal.loop-init
+loop-init g c = record {
+  others = λ other differs. refl;
+  made = HasBegun-none g.S.Store.tells g.S.Store.disk g.C.Clock.gives c.args.self.now (AreByTurns (length c.args.self.now.scripts.scripts) [] c.args.self.now.calls);
+}

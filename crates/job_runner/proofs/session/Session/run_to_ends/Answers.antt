@@ -1,6 +1,6 @@
-use Rattle.std.proofs.Common.{ℕ, [], length, refl, rules, subst}
+use Rattle.std.proofs.Common.{ℕ, [], length, arith, refl, rules, subst}
 use Rattle.job_runner.specs.Turns.{AreByTurns}
-use Rattle.job_runner.proofs.RunLemmas.{HasDone, HasBegun-done, HasBegun-end, HasBegun-job, HasBegun-scripts}
+use Rattle.job_runner.proofs.RunLemmas.{HasDone, HasBegun-none, HasBegun-done, HasBegun-end, HasBegun-job, HasBegun-scripts}
 use Rattle.job_runner.proofs.session.Session.run_to_ends.Goals as goal
 
 pub returns-then-ne-clause-made : goal.returns-then-ne-clause-made
@@ -28,3 +28,9 @@ pub returns-clause-made : goal.returns-clause-made
 returns-clause-made g c =
     let jobs = length c.args.self.now.scripts.scripts in
     HasBegun-end g.S.Store.tells g.S.Store.disk g.C.Clock.gives c.args.self.now c.loop-job.self c.loop-job.self (AreByTurns jobs [] c.args.self.now.calls) (AreByTurns jobs [] c.loop-job.self.calls) c.loop-job.invariant.made refl tt
+
+pub loop-job-init : goal.loop-job-init
+loop-job-init g c = record {
+  ended = λ job from until. absurd (omega (arith, from, until));
+  made = HasBegun-none g.S.Store.tells g.S.Store.disk g.C.Clock.gives c.args.self.now (AreByTurns (length c.args.self.now.scripts.scripts) [] c.args.self.now.calls);
+}
