@@ -45,7 +45,7 @@ module _ (old new : BookState) (e its : Entry) (is : e ≡ its) (deposited : new
   module _ (keeps : (kept : Kept) (entries : List Entry) → Keeps old kept entries → Keeps new kept (entries ++ its ∷ [])) (entries : List Entry) (disk : Disk) where
     pub deposited-holds : Holds old entries disk → Holds new (entries ++ e ∷ []) disk
     deposited-holds holds = holds_same_chain old new entries (entries ++ e ∷ []) disk chain-same (λ kept front. subst (λ (x : Entry). Keeps new kept (entries ++ x ∷ [])) (sym is)
-    (keeps kept entries front)) holds
+        (keeps kept entries front)) holds
 
     pub deposited-held : Holds old entries disk → IsHeld new disk
     deposited-held holds = ∣ (entries ++ e ∷ [], deposited-holds holds) ∣₁
