@@ -1,7 +1,9 @@
-use Rattle.std.proofs.Common.{◌+◌, ◌++◌, ◌∷◌, [], ◌∙◌, length, sym, subst}
+use Rattle.std.proofs.Common.{◌+◌, ◌++◌, ◌∷◌, List, [], ◌∙◌, length, ap, sym, subst}
 use Rattle.entry_codec.specs.declared.entries.Entry.{Entry}
 use Rattle.entry_codec.specs.Spelling.{HasSpelling}
 use Rattle.receiver_chain.proofs.Others.{roots_here}
+use Rattle.journal_book.specs.Book.{Holds}
+use Rattle.journal_opening.specs.Journals.{IsLeftBy}
 use Rattle.restart_rollback.proofs.PutLemmas.{roomy-holds, still}
 use Rattle.restart_rollback.proofs.Wholes.{replayed-still}
 use Rattle.restarted_journal.specs.Restarts.{first_entry}
@@ -120,3 +122,15 @@ returns-clause-replays g c = λ tells.
 
 pub returns-clause-receiver : goal.returns-clause-receiver
 returns-clause-receiver g c = c.put.ensures.receiver ∙ c.make_room.ensures.same.receiver
+
+pub returns-clause-ended : goal.returns-clause-ended
+returns-clause-ended g c =
+    c.in_ok-put.ensures.put ∙ ap (λ (x : Entry). c.args.entries.now.items ++ x ∷ [])
+    (entry-is c.args.who.now.job c.args.who.now.moment c.args.number c.deref.result.now c.args.entries.now.items c.first_draft.result c.numbered-entry.result c.in_ok-sequence.sequence
+    c.deref.ensures.value c.first_draft.ensures c.numbered-entry.ensures c.in_ok-sequence.ensures)
+
+pub returns-clause-left : goal.returns-clause-left
+returns-clause-left g c = subst (λ (l : List Entry). IsLeftBy (g.D.Describe.rules c.args.by.now) l c.take.new.replay) (sym c.in_ok-put.ensures.put) (c.in_ok-take.ensures c.args.entries.now.items c.requires.left)
+
+pub returns-clause-held : goal.returns-clause-held
+returns-clause-held g c = λ tells. subst (λ (l : List Entry). Holds c.put.new.book l (g.S.Store.disk c.put.new.store)) (sym c.in_ok-put.ensures.put) (c.in_ok-put.ensures.held tells)
