@@ -72,6 +72,13 @@ missing-none-or-one job moment (Some last) = elim (one-missing last.kind) [
   | inr one ↦ inr (one.0, ap (missing_draft job moment) one.1)
 ]
 
+-- of the entries in a slice, by the number that was found
+pub missing-at : (job : Option (List ℕ)) (moment : ℕ) (slice entries : List Entry) (found number : Option ℕ) → slice ≡ entries → found ≡ number
+    → missing_behind job moment (entry_before None slice) ≡ missing_draft job moment (beginning found) → missing_behind job moment (entry_before None entries) ≡ missing_draft job moment
+    (beginning number)
+missing-at job moment slice entries found number same is missing =
+    sym (ap (λ (l : List Entry). missing_behind job moment (entry_before None l)) same) ∙ missing ∙ ap (λ (o : Option ℕ). missing_draft job moment (beginning o)) is
+
 -- ---- it changes nothing of what is open
 
 module _ (job : Option (List ℕ)) (moment number sequence : ℕ) (entries : List Entry) where

@@ -45,7 +45,7 @@ module _ (old new : BookState) (e its : Entry) (is : e ≡ its) (deposited : new
   module _ (keeps : (kept : Kept) (entries : List Entry) → Keeps old kept entries → Keeps new kept (entries ++ its ∷ [])) (entries : List Entry) (disk : Disk) where
     pub deposited-holds : Holds old entries disk → Holds new (entries ++ e ∷ []) disk
     deposited-holds holds = holds_same_chain old new entries (entries ++ e ∷ []) disk chain-same (λ kept front. subst (λ (x : Entry). Keeps new kept (entries ++ x ∷ [])) (sym is)
-    (keeps kept entries front)) holds
+        (keeps kept entries front)) holds
 
     pub deposited-held : Holds old entries disk → IsHeld new disk
     deposited-held holds = ∣ (entries ++ e ∷ [], deposited-holds holds) ∣₁
@@ -56,11 +56,12 @@ module _ (old new : BookState) (e its : Entry) (is : e ≡ its) (deposited : new
 
 -- ---- the entry by which a receiver begins
 
-pub entry-is : (job : Option (List ℕ)) (moment number count : ℕ) (draft : Draft) (e : Entry) (sequence : ℕ) → draft ≡ library_draft job moment (PreviousReceiver number) → e ≡ numbered draft
-    sequence → sequence ≡ count + 1
-    → e ≡ first_entry job moment number (count + 1)
-entry-is job moment number count draft e sequence from is behind =
+pub entry-is : (job : Option (List ℕ)) (moment number : ℕ) (slice entries : List Entry) (draft : Draft) (e : Entry) (sequence : ℕ) → slice ≡ entries → draft ≡ library_draft job moment
+    (PreviousReceiver number)
+    → e ≡ numbered draft sequence → sequence ≡ length slice + 1 → e ≡ first_entry job moment number (length entries + 1)
+entry-is job moment number slice entries draft e sequence same from is behind =
     is ∙ ap (λ (d : Draft). numbered d sequence) from ∙ ap (λ (n : ℕ). numbered (library_draft job moment (PreviousReceiver number)) n) behind
+    ∙ ap (λ (l : List Entry). numbered (library_draft job moment (PreviousReceiver number)) (length l + 1)) same
 
 -- it is put behind the others, in a book that got room
 module _ (job : Option (List ℕ)) (moment number sequence : ℕ) (book roomy : BookState) (room : HasMoreRoom book roomy) (entries : List Entry) (e : Entry)

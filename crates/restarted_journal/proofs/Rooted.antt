@@ -80,7 +80,7 @@ module _ (roots : RootsState) (mid new : Disk) (has : HasRoots roots mid) (first
         spelled =
             let all : book.forced ≡ length entries = all-forced book entries new (ended.held told) ended.nothing_waits in
             subst (λ (n : ℕ). SpellEntries n entries areas) ended.receiver
-                (subst (λ (l : List Entry). SpellEntries book.chain.first l areas) (take_all book.forced entries (omega (arith, all))) (forced_left book entries new (ended.held told) areas may));
+            (subst (λ (l : List Entry). SpellEntries book.chain.first l areas) (take_all book.forced entries (omega (arith, all))) (forced_left book entries new (ended.held told) areas may));
         replays = ended.reopens.replays;
       }
 

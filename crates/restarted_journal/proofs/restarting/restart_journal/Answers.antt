@@ -41,3 +41,12 @@ returns-clause-moments g c = λ tells entries spells.
     ended-may c.in-Ok.opened.roots (g.S.Store.disk c.open_journal.new.store) (g.S.Store.disk c.end_opened.new.store) (c.in-Ok.ensures.opened tells).0.roots_held
     (c.in-Ok.ensures.opened tells).0.first c.end_opened.ensures.roots (g.D.Describe.rules c.args.by.now) c.args.who.now.job c.args.who.now.moment
     (g.S.Store.disk c.args.store.now) c.open_journal.ensures.stays entries c.in-Ok.opened.entries.items spells (c.in-Ok.ensures.opened tells).1 (c.end_opened.ensures.moments tells)
+
+pub returns-clause-not_a_library : goal.returns-clause-not_a_library
+returns-clause-not_a_library g c = λ is tells. absurd (c.end_opened.ensures.never_empty is)
+
+pub returns-clause-damaged : goal.returns-clause-damaged
+returns-clause-damaged g c = λ area at is tells entries spells. c.end_opened.ensures.never_damaged area at is
+
+pub returns-clause-something : goal.returns-clause-something
+returns-clause-something g c = λ area at is tells same. c.end_opened.ensures.never_damaged area at is
