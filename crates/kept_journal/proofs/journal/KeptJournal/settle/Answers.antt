@@ -6,8 +6,8 @@ use Rattle.kept_journal.proofs.journal.KeptJournal.settle.Goals as goal
 pub returns-else-is_due-clause-moments : goal.returns-else-is_due-clause-moments
 returns-else-is_due-clause-moments g c = λ tells all holds. none_exactly c.args.self.now all (g.S.Store.disk c.args.store.now) holds
 
-pub returns-then-is_due-clause-whole : goal.returns-then-is_due-clause-whole
-returns-then-is_due-clause-whole g c = inr c.in_ok-force.ensures.nothing_waits
+pub returns-in_ok-force-clause-whole : goal.returns-in_ok-force-clause-whole
+returns-in_ok-force-clause-whole g c = inr c.in_ok-force.ensures.nothing_waits
 
 pub returns-else-is_due-clause-whole : goal.returns-else-is_due-clause-whole
 returns-else-is_due-clause-whole g c = inl refl
