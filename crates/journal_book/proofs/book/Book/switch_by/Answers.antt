@@ -1,4 +1,4 @@
-use Rattle.std.proofs.Common.{◌≡◌, inl, inr, ℕ, ◌+◌, Err, IsErrOf, [], ◌∷◌, length, ap, ◌∙◌, arith}
+use Rattle.std.proofs.Common.{◌≡◌, inl, inr, ℕ, ◌+◌, Err, IsErrOf, [], ◌∷◌, length, refl, ap, ◌∙◌, arith}
 use Rattle.std.proofs.Math.Logic.{∥∥₁_map}
 use Rattle.std.proofs.lemmas.Result.{err_from_is_err_and}
 use Rattle.receiver_chain.specs.declared.fault.ChainFault.{ChainFault}
@@ -153,6 +153,12 @@ returns-clause-no_longer g c = omega (arith, c.force.ensures.no_longer, ap lengt
 pub returns-in_err-receiver-clause-same_next : goal.returns-in_err-receiver-clause-same_next
 returns-in_err-receiver-clause-same_next g c = λ is.
     omega (arith, c.in_ok-force.ensures.all, c.in_ok-force.ensures.nothing_waits, c.force.ensures.first, c.in_err-receiver.ensures.same_count, c.attach.ensures.nothing_waits, c.attach.ensures.first)
+
+pub returns-in_err-ending-clause-same_forced : goal.returns-in_err-ending-clause-same_forced
+returns-in_err-ending-clause-same_forced g c = λ is. inl refl
+
+pub returns-in_err-beginning-clause-same_forced : goal.returns-in_err-beginning-clause-same_forced
+returns-in_err-beginning-clause-same_forced g c = λ is. inl refl
 
 pub returns-in_err-receiver-clause-same_forced : goal.returns-in_err-receiver-clause-same_forced
 returns-in_err-receiver-clause-same_forced g c = λ is. inr (c.attach.ensures.nothing_waits ∙ c.in_ok-force.ensures.nothing_waits)
