@@ -20,7 +20,7 @@ ghost use Rattle.restarted_library.specs.Steps.{Fills, filled_by, status_by};
 
 use crate::copies::{copied, record_count};
 use file_catalogue::File;
-use library_parts::Contents;
+use library_parts::{Contents, MemberFound};
 use library_steps::limits::MOST_LIBRARY_BYTES;
 use member_slots::member::MOST_SLOTS;
 use member_slots::slot::Slot;
@@ -85,14 +85,22 @@ fn file_of_member<'a>(
 ) -> Result<&'a File, AllocError>
     ensures { IfOk result (λ file. HasMember contents.now.state member.now.file file.now number) }
 {
+    let MemberFound { file, status } = member_found(contents, member)?;
+    if status.number() != number {
+        return Err(AllocError);
+    }
+    Ok(file)
+}
+
+/// The file's member of that name.
+fn member_found<'a>(
+    contents: &'a Contents,
+    member: &Member,
+) -> Result<MemberFound<'a>, AllocError>
+    ensures { IfOk result (λ it. HasMember contents.now.state member.now.file it.file.now it.status.number) }
+{
     match contents.member_of_file(&member.file(), &member.name()) {
-        Ok(it) => {
-            if it.status.number() == number {
-                Ok(it.file)
-            } else {
-                Err(AllocError)
-            }
-        }
+        Ok(it) => Ok(it),
         Err(_) => Err(AllocError),
     }
 }

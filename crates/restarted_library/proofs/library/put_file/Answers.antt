@@ -5,11 +5,11 @@ use Rattle.replay_members.specs.Bodies.{member_shown}
 use Rattle.restarted_library.proofs.WalkLemmas.{owner-step, view-step, within}
 use Rattle.restarted_library.proofs.library.put_file.Goals as goal
 
-pub returns-in-Logical-clause-built : goal.returns-in-Logical-clause-built
-returns-in-Logical-clause-built c =
+pub returns-in_ok-put_view-in-Logical-clause-built : goal.returns-in_ok-put_view-in-Logical-clause-built
+returns-in_ok-put_view-in-Logical-clause-built c =
     let f = file_shown (c.in-Some.name, c.in-Some.file) in
     view-step c.args.files.now c.args.members.now.members c.args.place c.args.done c.args.contents.now.state c.put_view.new.contents.state f
-    (c.at.ensures ∙ ap (option_map file_shown) c.in-Some.is) c.in-Logical.is c.in_ok-put_view.ensures
+    (c.at.ensures ∙ ap (option_map file_shown) c.in-Some.is) c.in-Logical.is c.in_ok-put_view-in-Logical.ensures
 
 pub returns-clause-built : goal.returns-clause-built
 returns-clause-built c =
