@@ -1,8 +1,0 @@
-use Rattle.std.proofs.Common.{◌∙◌, refl, sym}
-use Rattle.restarted_library.proofs.FitLemmas.{has-same}
-use Rattle.restarted_library.proofs.filling.file_of_member.Goals as goal
-
-pub returns : goal.returns
-returns c =
-    has-same c.args.contents.now.state c.args.member.now.file c.args.member.now.file c.in_ok-file.field-0.file.now c.in_ok-file.field-0.status.number c.args.number refl
-    (sym c.number.ensures ∙ c.if-number-number.false) c.in_ok-file.ensures
