@@ -9,8 +9,11 @@ use Rattle.journal_model.specs.Catalogue.{CatalogFile}
 use Rattle.journal_replay.specs.Standing.{HeldMember}
 use Rattle.library_steps.specs.State.{State}
 use Rattle.restarted_library.specs.Built.{IsBuilt}
-use Rattle.restarted_library.specs.Steps.{AddsFile, AddsMember, AddsOwner, Leads}
+use Rattle.restarted_library.specs.Steps.{AddsFile, AddsMember, AddsOwned, AddsOwner, Leads}
 use Rattle.restarted_library.proofs.StepLemmas.{built-passed}
+
+abbrev catalogued : ℕ → (name source : List ℕ) → CatalogFile
+catalogued created name source = record { created = created; kind = Physical; name = name; source = source }
 
 take-found : {X : Type 0} (xs : List X) (place : ℕ) (x : X) → slice_get xs place ≡ Some x → take (place + 1) xs ≡ take place xs ++ x ∷ []
 take-found {X = X} xs place x at = take_more xs place x (slice_get_within xs place x at) ∙ ap (λ (y : X). take place xs ++ y ∷ []) (get_or_from_slice_get xs place x x at)
@@ -31,14 +34,17 @@ view-step files members place done s later f at is adds = λ entries attached bu
     subst (λ (w : List CatalogFile). IsBuilt entries attached w (take done members) later) (sym (file-found files place f Logical at is))
     (adds f.created (take place files) (take done members) entries attached built)
 
-pub owner-step : (files : List CatalogFile) (members : List HeldMember) (place done first : ℕ) (s mid later : State) (f : CatalogFile) (m : HeldMember) → slice_get files place ≡ Some f → f.kind ≡ Physical
-    → slice_get members first ≡ Some m → ((catalog : List CatalogFile) → Leads s catalog (take done members) mid catalog (take first members)) → AddsOwner mid later Physical f.name f.source m
-    → Leads s (take place files) (take done members) later (take (place + 1) files) (take (first + 1) members)
-owner-step files members place done first s mid later f m at is at_member before adds = λ entries attached built.
-    subst (λ (w : List CatalogFile). IsBuilt entries attached w (take (first + 1) members) later) (sym (file-found files place f Physical at is))
-    (subst (λ (w : List HeldMember). IsBuilt entries attached (take place files ++ record { created = f.created; kind = Physical; name = f.name; source = f.source } ∷ []) w later)
-    (sym (take-found members first m at_member))
-    (adds f.created (take place files) (take first members) entries attached (before (take place files) entries attached built)))
+pub owned-step : (files : List CatalogFile) (members later_members : List HeldMember) (place : ℕ) (s later : State) (f : CatalogFile) → slice_get files place ≡ Some f → f.kind ≡ Physical
+    → AddsOwned s later Physical f.name f.source members later_members → Leads s (take place files) members later (take (place + 1) files) later_members
+owned-step files members later_members place s later f at is adds = λ entries attached built.
+    subst (λ (w : List CatalogFile). IsBuilt entries attached w later_members later) (sym (file-found files place f Physical at is)) (adds f.created (take place files) entries attached built)
+
+pub owner-put : (members : List HeldMember) (done first : ℕ) (s mid later : State) (name source : List ℕ) (m : HeldMember) → slice_get members first ≡ Some m
+    → ((catalog : List CatalogFile) → Leads s catalog (take done members) mid catalog (take first members)) → AddsOwner mid later Physical name source m
+    → AddsOwned s later Physical name source (take done members) (take (first + 1) members)
+owner-put members done first s mid later name source m at before adds = λ created catalog entries attached built.
+    subst (λ (w : List HeldMember). IsBuilt entries attached (catalog ++ catalogued created name source ∷ []) w later) (sym (take-found members first m at))
+    (adds created catalog (take first members) entries attached (before catalog entries attached built))
 
 pub member-step : (members : List HeldMember) (place : ℕ) (s later : State) (m : HeldMember) → slice_get members place ≡ Some m → AddsMember s later m
     → (catalog : List CatalogFile) → Leads s catalog (take place members) later catalog (take (place + 1) members)

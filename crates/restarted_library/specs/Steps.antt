@@ -37,6 +37,11 @@ abbrev pub AddsOwner : (old new : State) → FileKind → (name source : List �
 AddsOwner old new kind name source m = (created : ℕ) (catalog : List CatalogFile) (members : List HeldMember)
     → Leads old catalog members new (catalog ++ record { created = created; kind = kind; name = name; source = source } ∷ []) (members ++ m ∷ [])
 
+-- one file more, with all members up to its first
+abbrev pub AddsOwned : (old new : State) → FileKind → (name source : List ℕ) → (members later_members : List HeldMember) → Type 0
+AddsOwned old new kind name source members later_members = (created : ℕ) (catalog : List CatalogFile)
+    → Leads old catalog members new (catalog ++ record { created = created; kind = kind; name = name; source = source } ∷ []) later_members
+
 -- a member that was added gets its slots and its journaling
 abbrev pub Fills : (old new : State) → HeldMember → Type 0
 Fills old new m = (entries : List Entry) (attached : ℕ) (catalog : List CatalogFile) (members : List HeldMember) → IsAdded entries attached catalog members m old

@@ -20,7 +20,7 @@ ghost use Rattle.restarted_library.specs.Steps.{Fills, filled_by, status_by};
 
 use crate::copies::{copied, record_count};
 use file_catalogue::File;
-use library_parts::Contents;
+use library_parts::{Contents, MemberFound, Stop};
 use library_steps::limits::MOST_LIBRARY_BYTES;
 use member_slots::member::MOST_SLOTS;
 use member_slots::slot::Slot;
@@ -85,16 +85,21 @@ fn file_of_member<'a>(
 ) -> Result<&'a File, AllocError>
     ensures { IfOk result (λ file. HasMember contents.now.state member.now.file file.now number) }
 {
-    match contents.member_of_file(&member.file(), &member.name()) {
-        Ok(it) => {
-            if it.status.number() == number {
-                Ok(it.file)
-            } else {
-                Err(AllocError)
-            }
-        }
+    match file_found(contents, number, member) {
+        Ok(file) => Ok(file),
         Err(_) => Err(AllocError),
     }
+}
+
+/// The file of which the member of this number has that name.
+fn file_found<'a>(contents: &'a Contents, number: u32, member: &Member) -> Result<&'a File, Stop>
+    ensures { IfOk result (λ file. HasMember contents.now.state member.now.file file.now number) }
+{
+    let MemberFound { file, status } = contents.member_of_file(&member.file(), &member.name())?;
+    if status.number() != number {
+        return Err(Stop::NoMemory);
+    }
+    Ok(file)
 }
 
 /// The slots are records of the file.

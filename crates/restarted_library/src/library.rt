@@ -1,16 +1,18 @@
 //! The files and members that a journal leaves are put into a library one after another, in the order of their creation.
 ghost use Rattle.std.specs.Prelude.{◌≡◌, ◌+◌, ◌≤◌, List, [], take, length, IfOk, OnOk};
+ghost use Rattle.entry_codec.specs.declared.kinds.FileKind.TheVariants.{Physical};
 ghost use Rattle.journal_model.specs.Catalogue.{CatalogFile};
 ghost use Rattle.journal_model.specs.Journal.{AreNumbered};
 ghost use Rattle.journal_replay.specs.Left.{IsLeft};
 ghost use Rattle.restart_model.specs.Libraries.{journal_with, library_left};
 ghost use Rattle.restart_model.specs.Sources.{descriptions};
 ghost use Rattle.restarted_library.specs.Built.{IsBuilt};
-ghost use Rattle.restarted_library.specs.Steps.{Leads};
+ghost use Rattle.restarted_library.specs.Steps.{AddsOwned, Leads};
 
 use crate::placing::{put_member, put_physical, put_view, raise};
 use entry_codec::{Entry, FileKind};
 use field_types::names::Name;
+use field_types::texts::SourceText;
 use library_parts::Contents;
 use memory_journal::journal::LAST_NUMBER;
 use replay_files::Files;
@@ -89,15 +91,31 @@ fn put_file(
             Ok(done)
         }
         FileKind::Physical => {
-            let first = first_of(members, name, done);
-            put_members(contents, members, done, first)?;
-            let Some((number, member)) = members.at(first) else {
-                return Err(AllocError);
-            };
-            put_physical(contents, *name, &file.source, *number, member)?;
-            Ok(first + 1)
+            let later = put_owner(contents, members, *name, &file.source, done)?;
+            Ok(later)
         }
     }
+}
+
+/// Puts a physical file with its first member, and before it the members that come before that one.
+fn put_owner(
+    contents: &mut Contents,
+    members: &Members,
+    name: Name,
+    source: &SourceText,
+    done: usize,
+) -> Result<usize, AllocError>
+    requires { done ≤ length members.now.members }
+    ensures built { IfOk result (λ later. AddsOwned contents.old.state contents.new.state Physical name source.now (take done members.now.members) (take later members.now.members)) }
+    ensures few { IfOk result (λ later. later ≤ length members.now.members) }
+{
+    let first = first_of(members, &name, done);
+    put_members(contents, members, done, first)?;
+    let Some((number, member)) = members.at(first) else {
+        return Err(AllocError);
+    };
+    put_physical(contents, name, source, *number, member)?;
+    Ok(first + 1)
 }
 
 /// Where the first member of the file stands from this place on.

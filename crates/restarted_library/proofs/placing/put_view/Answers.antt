@@ -11,10 +11,10 @@ put_described-requires c =
     let is = subst (λ (o : Option NewLogical). IsViewOf (memory_of c.args.contents.now.state) c.args.source.now o) c.in-Some.is c.in_ok-found.ensures in
     ap (λ (text : List ℕ). logical_described (memory_of c.args.contents.now.state) text) is.0 ∙ is.1
 
-pub returns-in-Some : goal.returns-in-Some
-returns-in-Some c =
+pub returns-in_ok-put_described-in-Some : goal.returns-in_ok-put_described-in-Some
+returns-in_ok-put_described-in-Some c =
     let is = subst (λ (o : Option NewLogical). IsViewOf (memory_of c.args.contents.now.state) c.args.source.now o) c.in-Some.is c.in_ok-found.ensures in
-    subst (λ (text : List ℕ). AddsFile c.args.contents.now.state c.put_described.new.contents.state Logical c.args.name text) is.0 c.in_ok-put_described.ensures
+    subst (λ (text : List ℕ). AddsFile c.args.contents.now.state c.put_described.new.contents.state Logical c.args.name text) is.0 c.in_ok-put_described-in-Some.ensures
 
 pub returns-in-None : goal.returns-in-None
 returns-in-None c = λ created catalog members entries attached built.
