@@ -43,6 +43,11 @@ fn say_jobs_help<R: Eprint>(rt: &R, alloc: Global, remains: &Remains<'_>) {
     }
 }
 
+/// Says that another run has the library's folder.
+pub(crate) fn say_in_use<R: Eprint>(rt: &R, folder: &str) {
+    let _ = eprintln!(rt; "the library in {folder:?} is in use by another run: try again when that one has ended");
+}
+
 /// Says what to type, where words that are a run have a terminal as their input.
 pub(crate) fn say_terminal_help<R: Eprint>(rt: &R, alloc: Global, words: &[String]) {
     if words_help(alloc, words).is_ok_and(|help| help.as_bytes().is_empty()) {

@@ -1,22 +1,26 @@
-//! `ibmi RUN folder` and `ibmi SERIAL folder`: run the jobs of an input and print every call with its reply.
-//! The run itself stands in the crate `ibmi_batch`, the real source, sink and clock in the crate `outside`.
+//! `ibmi INZ folder` makes a library, `ibmi RUN folder` and `ibmi SERIAL folder` run the jobs of an input over it and print every call with
+//! its reply, and `ibmi DSP folder` shows it. What a command does stands in the crate `ibmi_batch`, the store over a folder in `folder_store`,
+//! the real source, sink and clock in `outside`.
 #![tactic(auto)]
 
 mod help;
 mod kept;
 
-use crate::help::{Remains, say_help, say_terminal_help};
+use crate::help::{Remains, say_help, say_in_use, say_terminal_help};
 use crate::kept::{KeptSink, KeptSource};
+use folder_store::{FolderStore, OpenError};
 use ibmi_batch::batch::{program, program_alone};
 use ibmi_batch::status::Status;
-use ibmi_batch::words::are_run_words;
+use ibmi_batch::words::{are_command_words, are_job_words, are_run_words};
 use outside::{StandardInput, StandardOutput, SystemClock};
+use std::fs::File;
 use std::io::{ErrorKind, IsTerminal};
 use std::process::ExitCode;
+use std::rt::Files;
 use std::sync::Wait;
 use std::thread::Threads;
 use std::{env, io};
-use store_model::{Clock, MemoryStore, OpenGate, Sink, Source};
+use store_model::{Clock, MemoryStore, OpenGate, Sink, Source, Store};
 
 fn main(rt: HostRuntime) -> ExitCode {
     let words: Vec<String> = match env::args(&rt) {
@@ -29,14 +33,17 @@ fn main(rt: HostRuntime) -> ExitCode {
     let Ok(clock) = rt.clone() else {
         return end(&rt, Status::NoMemory);
     };
+    let Ok(files) = rt.clone() else {
+        return end(&rt, Status::NoMemory);
+    };
     let reader = rt.reader();
-    if reader.is_terminal() {
+    if are_job_words(words.as_slice()) && reader.is_terminal() {
         say_terminal_help(&rt, rt.alloc(), words.as_slice());
     }
     let mut input = KeptSource::new(rt.alloc(), StandardInput::new(reader));
     let mut output = KeptSink::new(rt.alloc(), StandardOutput::new(io::writer(&rt)));
     let clock = SystemClock::new(clock);
-    let status = run(&rt, words.as_slice(), &mut input, &mut output, clock);
+    let status = run_over(&rt, files, words.as_slice(), &mut input, &mut output, clock);
     let code = end(&rt, status);
     let remains = Remains {
         words: words.as_slice(),
@@ -47,16 +54,58 @@ fn main(rt: HostRuntime) -> ExitCode {
     code
 }
 
-/// Does what the words say: RUN with a runtime for the threads of its jobs, every other command without one.
-fn run<R: AllocGlobal + Threads + Wait + Sync, I: Source, O: Sink, C: Clock + Send + Drop>(
+/// Does what the words say, over the folder that they name. Words that are no command touch no folder.
+fn run_over<
+    R: AllocGlobal + Eprint + Threads + Wait + Sync,
+    F: Files<File = File> + AllocGlobal + Drop + Send,
+    I: Source,
+    O: Sink,
+    C: Clock + Send + Drop,
+>(
     rt: &R,
+    files: F,
     words: &[String],
     input: &mut I,
     output: &mut O,
     clock: C,
 ) -> Status {
     let alloc = rt.alloc();
-    let store = MemoryStore::new(alloc);
+    let folder = match words {
+        [_, folder] if are_command_words(words) => folder,
+        _ => return run(rt, words, MemoryStore::new(alloc), input, output, clock),
+    };
+    match FolderStore::open(files, folder.as_str()) {
+        Ok(store) => run(rt, words, store, input, output, clock),
+        Err(OpenError::InUse) => {
+            say_in_use(rt, folder.as_str());
+            Status::StoreFault
+        }
+        Err(OpenError::Refused(error)) => {
+            if error.kind() == ErrorKind::OutOfMemory {
+                Status::NoMemory
+            } else {
+                Status::StoreFault
+            }
+        }
+    }
+}
+
+/// Does what the words say: RUN with a runtime for the threads of its jobs, every other command without one.
+fn run<
+    R: AllocGlobal + Threads + Wait + Sync,
+    S: Store + Send + Drop,
+    I: Source,
+    O: Sink,
+    C: Clock + Send + Drop,
+>(
+    rt: &R,
+    words: &[String],
+    store: S,
+    input: &mut I,
+    output: &mut O,
+    clock: C,
+) -> Status {
+    let alloc = rt.alloc();
     let (status, _store, _clock) = if are_run_words(words) {
         program(rt, alloc, words, store, input, output, clock, &OpenGate)
     } else {
@@ -80,7 +129,7 @@ fn end(rt: &impl Eprint, status: Status) -> ExitCode {
         Status::Done => {}
         Status::Words => {
             let _ = eprintln!(rt;
-                "{status}\nusage: ibmi RUN folder < input, or ibmi SERIAL folder < input"
+                "{status}\nusage: ibmi INZ folder, ibmi RUN folder < input, ibmi SERIAL folder < input, or ibmi DSP folder"
             );
         }
         _ => {

@@ -1,1 +1,3 @@
+mod OutcomeLemmas
 mod RunLemmas
+mod SourceLemmas

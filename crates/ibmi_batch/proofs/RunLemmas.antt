@@ -1,118 +1,131 @@
--- What a run comes to: from a session that begins, and from words or an input that begin none.
-use Rattle.std.proofs.Common.{◌≡◌, ℕ, ◌≤◌, true, IsTrue, List, [], ◌++◌, length, map, ◌∙◌, ap, subst, arith}
+-- What a library that was opened, and a session that ran over it, come to together.
+use Rattle.std.proofs.Common.{◌≡◌, ◌≤◌, ◌∙◌, ℕ, inl, inr, true, false, List, [], length, take, refl, sym, ap, subst, arith}
+use Rattle.std.proofs.lemmas.List.{take_all}
+use Rattle.store_model.specs.Disk.{Areas, Disk, Leaves, May}
+use Rattle.store_model.specs.Faults.{Rose}
+use Rattle.store_model.proofs.Runs.{leaves_less, leaves_then}
+use Rattle.entry_codec.specs.declared.entries.Entry.{Entry}
+use Rattle.receiver_chain.specs.declared.numbers.TheConstants.{FIRST_RECEIVER}
+use Rattle.journal_book.specs.Kept.{SpellEntries}
+use Rattle.journal_opening.specs.declared.fault.OpenFault.{OpenFault}
+use Rattle.journal_opening.specs.declared.fault.OpenFault.TheVariants as fault
 use Rattle.library_model.specs.declared.calls.Call.{Call}
-use Rattle.library_steps.specs.State.{State, empty_library, begun, new_job}
-use Rattle.library_steps.specs.History.{Standing}
+use Rattle.library_steps.specs.State.{State, begun}
+use Rattle.library_steps.specs.History.{Outcome, Standing, Failed}
+use Rattle.library_core.specs.Fronts.{IsFront}
 use Rattle.library_core.specs.Parts.{LibraryOver}
-use Rattle.library_core.specs.Stands.{Stands}
+use Rattle.library_core.specs.Stands.{IsAt}
 use Rattle.input_scripts.specs.declared.Scripts.{Scripts}
 use Rattle.job_runner.specs.Asked.{AreAsked}
 use Rattle.job_runner.specs.Ended.{has_ended}
 use Rattle.job_runner.specs.Made.{AreGiven}
+use Rattle.job_runner.specs.Moments.{HasRun as HasRunOver, StandsForced}
 use Rattle.job_runner.specs.Places.{BeginsJobs}
 use Rattle.job_runner.specs.Session.{SessionOver, HasMade}
 use Rattle.job_runner.specs.Turns.{AreInTurn}
-use Rattle.ibmi_batch.specs.Words.{are_serial_words}
+use Rattle.job_runner.proofs.StartLemmas.{HasRun-made, StandsForced-begun}
+use Rattle.opened_library.specs.Opened.{IsNotOpened, IsOpenedLibrary}
+use Rattle.restart_model.specs.Libraries.{restart_job}
+use Rattle.restart_model.specs.Sources.{descriptions}
+use Rattle.restarted_journal.specs.Restarts.{MayRestart}
 use Rattle.ibmi_batch.specs.declared.status.Status.{Status}
-use Rattle.ibmi_batch.specs.declared.status.Status.TheVariants.{Done, Words, ReadFault, TooLong, Script, NotALibrary, Damaged, StoreFault, WriteFault, NoMemory, JobsEnded, Exists}
-use Rattle.ibmi_batch.specs.Outcome.{Reading, Writing, IsWholeRun, Listed, NothingWritten, HasRun, WasRun, IsOutcome, Starts, Begins, Refuses}
+use Rattle.ibmi_batch.specs.Opening.{status_of}
+use Rattle.ibmi_batch.specs.Outcome.{HasRun, HaveEnded, IsCutShort, IsStanding, RunOver, Writing}
+use Rattle.ibmi_batch.specs.Parts.{IsUnopened, SessionRan}
+use Rattle.ibmi_batch.specs.Storing.{MayRun}
+use Rattle.ibmi_batch.specs.Words.{are_serial_words}
 
--- a library with nothing in it, and jobs begun over it
-pub stands-begun : {S : Type 0} (old new : LibraryOver S) (names : List (List ℕ)) → Stands old empty_library → BeginsJobs old new names → Stands new (begun empty_library names)
-stands-begun old new names stands begins = record {
-  alive = begins.failed ∙ stands.alive;
-  state = begins.state ∙ ap (λ (s : State). record s { jobs = s.jobs ++ map new_job names }) stands.state;
-}
+-- ---- a store that was not opened
 
--- all the calls of a session that began with none
-pub whole-run : {S C : Type 0} (words : List (List ℕ)) (gives : C → ℕ → C → Type 0) (first later : SessionOver S C) (made : List Call) → Starts first → first.calls ≡ []
-    → HasMade gives first later made → ((job : ℕ) → 1 ≤ job → job ≤ length later.scripts.scripts → IsTrue (has_ended job later.calls))
-    → (are_serial_words words ≡ true → AreInTurn (length first.scripts.scripts) first.scripts.schedule first.calls made) → IsWholeRun words later.scripts later.calls
-whole-run words gives first later made starts none has ended order =
-    let all : later.calls ≡ made = has.calls ∙ ap (λ (calls : List Call). calls ++ made) none in
-    let led = has.legal (Standing (begun starts.start first.scripts.names)) starts.stands in
-    rw (all, has.scripts) (record {
-      start = starts.start;
-      begins = starts.begins;
-      outcome = led.0;
-      legal = led.1;
-      asked = subst (λ (calls : List Call). AreAsked first.scripts.scripts calls made) none has.asked;
-      ended = rw (all, has.scripts) at ended;
-      order = λ serial. subst (λ (calls : List Call). AreInTurn (length first.scripts.scripts) first.scripts.schedule calls made) none (order serial);
-    })
+pub unopened : (why : OpenFault) (tells : Type 0) (old new : Disk) → IsNotOpened why tells old new → IsUnopened (status_of why) (record { tells = tells; old = old; new = new })
+unopened fault.NotALibrary tells old new is = is
+unopened (fault.Damaged area at) tells old new is = is
+unopened fault.StoreFault tells old new is = is
+unopened fault.NoMemory tells old new is = is
 
--- and their timestamps
-pub given-all : {S C : Type 0} (gives : C → ℕ → C → Type 0) (first later : SessionOver S C) (made : List Call) → first.calls ≡ [] → HasMade gives first later made → AreGiven gives first.clock later.clock later.calls
-given-all gives first later made none has =
-    let all : later.calls ≡ made = has.calls ∙ ap (λ (calls : List Call). calls ++ made) none in
-    rw all has.given
+-- ---- what a session came to
 
--- what is listed with timestamps of one kind is listed with timestamps of a wider kind
-listed-wider : (words : List (List ℕ)) (scripts : Scripts) (given wider : List Call → Type 0) (writing : Writing) (part : List Call → Type 0)
-    → ((calls : List Call) → given calls → wider calls) → Listed words scripts given writing part → Listed words scripts wider writing part
-listed-wider words scripts given wider writing part widens listed =
-    record { calls = listed.calls; run = listed.run; timestamps = widens listed.calls listed.timestamps; written = listed.written }
+-- an outcome of a library that hasn't failed stands
+pub stands-alive : {S : Type 0} (library : LibraryOver S) (outcome : Outcome) → IsAt library outcome → library.failed ≡ false → IsStanding outcome
+stands-alive library (Standing s) at alive = (s, refl)
+stands-alive library (Failed entries) at alive = absurd cc
 
-pub HasRun-wider : (status : Status) (words : List (List ℕ)) (scripts : Scripts) (given wider : List Call → Type 0) (writing : Writing)
-    → ((calls : List Call) → given calls → wider calls) → HasRun status words scripts given writing → HasRun status words scripts wider writing
-HasRun-wider Done words scripts given wider writing widens ran = listed-wider words scripts given wider writing _ widens ran
-HasRun-wider JobsEnded words scripts given wider writing widens ran = listed-wider words scripts given wider writing _ widens ran
-HasRun-wider WriteFault words scripts given wider writing widens ran = (listed-wider words scripts given wider writing _ widens ran.0, ran.1)
-HasRun-wider NoMemory words scripts given wider writing widens ran = ran
-HasRun-wider Words words scripts given wider writing widens ran = ran
-HasRun-wider ReadFault words scripts given wider writing widens ran = ran
-HasRun-wider TooLong words scripts given wider writing widens ran = ran
-HasRun-wider (Script line) words scripts given wider writing widens ran = ran
-HasRun-wider NotALibrary words scripts given wider writing widens ran = ran
-HasRun-wider (Damaged area at) words scripts given wider writing widens ran = ran
-HasRun-wider StoreFault words scripts given wider writing widens ran = ran
-HasRun-wider Exists words scripts given wider writing widens ran = ran
+-- that of one that has failed doesn't
+pub cut-failed : {S : Type 0} (library : LibraryOver S) (outcome : Outcome) → IsAt library outcome → library.failed ≡ true → IsCutShort outcome
+cut-failed library (Standing s) at failed = absurd (let alive = at.alive in cc)
+cut-failed library (Failed entries) at failed = (entries, refl)
 
-module _ {S C : Type 0} (reading : Reading) (store : S) (clock : C) (session : SessionOver S C) (given : List Call → Type 0) (writing : Writing) (begins : Begins reading store clock session) where
-  was-run : (status : Status) → HasRun status reading.words session.scripts given writing → WasRun status reading given writing
-  was-run status ran = record { words = begins.words; left = begins.left; scripts = session.scripts; read = begins.read; ran = ran }
+module _ {S C : Type 0} (tells : Type 0) (disk : S → Disk) (gives : C → ℕ → C → Type 0) (words : List (List ℕ)) (first later : SessionOver S C) (made : List Call) (from : State)
+    (none : first.calls ≡ []) (forced : StandsForced tells disk first.library from) (has : HasMade tells disk gives first later made)
+    (order : are_serial_words words ≡ true → AreInTurn (length first.scripts.scripts) first.scripts.schedule first.calls made) where
+  all : later.calls ≡ made
+  all = has.calls ∙ ap (λ (calls : List Call). calls ++ made) none
 
-  -- a session that began has run
-  pub outcome-ran : (status : Status) → HasRun status reading.words session.scripts given writing → IsOutcome status reading given writing
-  outcome-ran Done ran = record { comes = was-run Done ran; complete = λ tells order. tt }
-  outcome-ran JobsEnded ran = record { comes = was-run JobsEnded ran; complete = λ tells order. tt }
-  outcome-ran WriteFault ran = record { comes = was-run WriteFault ran; complete = λ tells order. ran.1 }
-  outcome-ran NoMemory ran = record { comes = record { words = begins.words; written = ran; why = tt }; complete = λ tells order. tt }
-  outcome-ran Words ran = absurd ran
-  outcome-ran ReadFault ran = absurd ran
-  outcome-ran TooLong ran = absurd ran
-  outcome-ran (Script line) ran = absurd ran
-  outcome-ran NotALibrary ran = absurd ran
-  outcome-ran (Damaged area at) ran = absurd ran
-  outcome-ran StoreFault ran = absurd ran
-  outcome-ran Exists ran = absurd ran
+  led : HasRunOver tells disk first.scripts.sources first.library later.library from made
+  led = HasRun-made tells disk gives first later from made forced has
 
--- no session began, and nothing was written
-pub outcome-refused : (status : Status) (reading : Reading) (given : List Call → Type 0) (writing : Writing) → NothingWritten writing → Refuses status reading → IsOutcome status reading given writing
-outcome-refused Words reading given writing nothing refused = record {
-  comes = record { words = refused; written = nothing };
-  complete = λ tells order. absurd (let e = order.words in cc);
-}
-outcome-refused ReadFault reading given writing nothing refused = record {
-  comes = record { words = refused.0; written = nothing; why = refused.1 };
-  complete = λ tells order. refused.1;
-}
-outcome-refused TooLong reading given writing nothing refused = record {
-  comes = record { words = refused.0; written = nothing; why = refused.1 };
-  complete = λ tells order. absurd (omega (arith, refused.1 tells, order.short));
-}
-outcome-refused (Script line) reading given writing nothing refused = record {
-  comes = record { words = refused.0; written = nothing; why = refused.1 };
-  complete = λ tells order. absurd (refused.2 tells order.input);
-}
-outcome-refused NoMemory reading given writing nothing refused = record {
-  comes = record { words = refused; written = nothing; why = tt };
-  complete = λ tells order. tt;
-}
-outcome-refused Done reading given writing nothing refused = absurd refused
-outcome-refused JobsEnded reading given writing nothing refused = absurd refused
-outcome-refused WriteFault reading given writing nothing refused = absurd refused
-outcome-refused NotALibrary reading given writing nothing refused = absurd refused
-outcome-refused (Damaged area at) reading given writing nothing refused = absurd refused
-outcome-refused StoreFault reading given writing nothing refused = absurd refused
-outcome-refused Exists reading given writing nothing refused = absurd refused
+  pub session-outcome : Outcome
+  session-outcome = led.outcome
+
+  pub session-at : IsAt later.library session-outcome
+  session-at = led.at
+
+  -- with what was written
+  pub session-ran : (status : Status) (writing : Writing) → HasRun status first.scripts made session-outcome writing
+      → SessionRan tells (disk first.library.store) (disk later.library.store) status words first.scripts from (AreGiven gives first.clock later.clock) writing
+  session-ran status writing ran = record {
+    calls = made;
+    outcome = led.outcome;
+    legal = led.runs;
+    asked = subst (λ (calls : List Call). AreAsked first.scripts.scripts calls made) none has.asked;
+    order = λ serial. subst (λ (calls : List Call). AreInTurn (length first.scripts.scripts) first.scripts.schedule calls made) none (order serial);
+    timestamps = has.given;
+    moments = led.moments;
+    acknowledged = led.now;
+    ran = ran;
+  }
+
+-- ---- over a library that was opened
+
+module _ {S : Type 0} (tells : Type 0) (disk : S → Disk) (old : Disk) (library : LibraryOver S) (opened : IsOpenedLibrary tells old (disk library.store) library) where
+  pub opened-forced : StandsForced tells disk library library.state
+  opened-forced = record {
+    stands = record { alive = opened.alive; state = refl };
+    all = opened.all;
+    receiver = opened.receiver;
+    left = λ told. record {
+      few = omega (arith, opened.all);
+      spells = λ areas may.
+          rw (opened.receiver, opened.all, take_all (length library.state.entries) library.state.entries (omega arith)) (opened.left told areas may);
+    };
+  }
+
+  module _ (begun-library : LibraryOver S) (scripts : Scripts) (begins : BeginsJobs library begun-library scripts.names) (last : Disk) where
+    pub over-run : (status : Status) (words : List (List ℕ)) (given : List Call → Type 0) (writing : Writing)
+        → SessionRan tells (disk begun-library.store) last status words scripts (begun library.state scripts.names) given writing
+        → RunOver status words scripts given writing (record { tells = tells; old = old; new = last })
+    over-run status words given writing ran = record {
+      before = opened.before;
+      start = library.state;
+      starts = opened.from;
+      calls = ran.calls;
+      outcome = ran.outcome;
+      run = record { legal = ran.legal; asked = ran.asked; order = ran.order };
+      timestamps = ran.timestamps;
+      kept = record {
+        moments = λ told.
+            leaves_then old (disk library.store) last (MayRun old opened.before scripts.sources (begun library.state scripts.names) ran.calls ran.outcome)
+            (leaves_less old (disk library.store) (MayRestart descriptions old restart_job 0 opened.before)
+            (MayRun old opened.before scripts.sources (begun library.state scripts.names) ran.calls ran.outcome)
+            (opened.restart told opened.before (opened.from.spelled told)) (λ areas may. inl may))
+            (leaves_less (disk library.store) last (IsFront scripts.sources (begun library.state scripts.names) ran.calls [] ran.outcome)
+            (MayRun old opened.before scripts.sources (begun library.state scripts.names) ran.calls ran.outcome)
+            (subst (λ (store : S). Leaves (disk store) last (IsFront scripts.sources (begun library.state scripts.names) ran.calls [] ran.outcome)) begins.store (ran.moments told))
+            (λ areas front. inr front));
+        acknowledged = ran.acknowledged;
+      };
+      ran = ran.ran;
+    }
+
+    pub rose-run : Rose (disk begun-library.store).faults last.faults → Rose old.faults last.faults
+    rose-run rose = let same = ap (λ (store : S). (disk store).faults) begins.store in let upto = opened.faults in omega (arith, rose, same, upto)

@@ -1,13 +1,11 @@
 -- What calls more make of a history: of a job's own calls, of what was asked, and of where the calls lead.
-use Rattle.std.proofs.Common.{◌≡◌, ◌≢◌, ℕ, ◌-◌, ◌<◌, ◌≤◌, Bool, true, not, ◌&&◌, IsTrue, get_or, unwrap_or, Result, Ok, Err, IfOk, Option, Some, List, [], ◌∷◌, ◌++◌, length, map, slice_get, zero, suc, refl, sym, ◌∙◌, ap, subst, arith, rules, append_assoc, append-nil}
+use Rattle.std.proofs.Common.{◌≡◌, ◌≢◌, ℕ, ◌-◌, ◌<◌, ◌≤◌, Bool, true, not, ◌&&◌, IsTrue, get_or, unwrap_or, Result, Ok, Err, IfOk, Option, Some, List, [], ◌∷◌, ◌++◌, length, map, slice_get, zero, suc, refl, sym, ◌∙◌, ap, arith, rules, append_assoc, append-nil}
 use Rattle.std.proofs.lemmas.Option.{slice_get-get_or}
 use Rattle.std.specs.List.{list_all}
 use Rattle.std.proofs.lemmas.Grind.{common_steps}
 use Rattle.std.proofs.lemmas.Bool.Decides.{nat_tests}
 use Rattle.library_model.specs.declared.calls.Call.{Call}
-use Rattle.library_model.specs.declared.sources.NamedSource.{NamedSource}
 use Rattle.library_model.specs.Ending.{is_end_job}
-use Rattle.library_steps.specs.History.{Outcome, Standing, Failed, Runs}
 use Rattle.job_language.specs.declared.statements.Script.{Script}
 use Rattle.job_runner.specs.Ended.{calls_of, ends_once}
 use Rattle.job_runner.specs.Asked.{AreAsked, script_of, no_script}
@@ -41,13 +39,6 @@ slice_get-append (first ∷ xs) (suc place) x y there = slice_get-append xs plac
 pub slice_get-append_last : {X : Type 0} (xs : List X) (y : X) → slice_get (xs ++ y ∷ []) (length xs) ≡ Some y
 slice_get-append_last [] y = refl
 slice_get-append_last (first ∷ xs) y = slice_get-append_last xs y
-
--- calls that lead on from where the calls before them led
-pub Runs-append : (sources : List NamedSource) (from mid to : Outcome) (made more : List Call) → Runs sources from made mid → Runs sources mid more to → Runs sources from (made ++ more) to
-Runs-append sources from mid to [] more front back = subst (λ (o : Outcome). Runs sources o more to) front back
-Runs-append sources (Standing s) mid to (call ∷ made) more front back =
-    (front.0, front.1, front.2, Runs-append sources front.1 mid to made more front.3 back)
-Runs-append sources (Failed journal) mid to (call ∷ made) more front back = absurd front
 
 pub AreAsked-append : (scripts : List Script) (before made more : List Call) → AreAsked scripts before made → AreAsked scripts (before ++ made) more → AreAsked scripts before (made ++ more)
 AreAsked-append scripts before [] more front back = rw append-nil at back

@@ -1,6 +1,9 @@
 pub mod CallLemmas
+pub mod FrontLemmas
+pub mod LedLemmas
 pub mod MadeLemmas
 pub mod PlaceLemmas
 pub mod ProgressLemmas
 pub mod RunLemmas
+pub mod StartLemmas
 pub mod TurnLemmas

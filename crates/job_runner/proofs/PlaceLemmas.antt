@@ -15,6 +15,7 @@ use Rattle.library_steps.specs.History.{is_running}
 use Rattle.library_model.specs.Ending.{is_end_job}
 use Rattle.library_core.specs.Running.{runs_after}
 use Rattle.answered_sources.specs.Answered.{AreAnswered}
+use Rattle.deposited_entries.specs.Deposits.{AreShort}
 use Rattle.joint_state.specs.Sound.{IsSound}
 use Rattle.input_scripts.specs.declared.Scripts.{Scripts}
 use Rattle.input_scripts.specs.Askable.{is_askable_script}
@@ -152,6 +153,7 @@ module _ (scripts : Scripts) (old new : State) (calls : List Call) (room : ℕ) 
   IsSession-called left sound fits = record {
     sound = sound;
     answered = called.is.answered;
+    short = called.is.short;
     askable = called.is.askable;
     jobs = length-slice_set kept (job - 1) (place_after progress calls call) ∙ called.is.jobs;
     few = called.is.few;
@@ -197,6 +199,7 @@ IsSession-same scripts state calls later room more kept job place next is from h
     rw same (record {
       sound = is.sound;
       answered = is.answered;
+      short = is.short;
       askable = is.askable;
       jobs = length-slice_set kept (job - 1) next ∙ is.jobs;
       few = is.few;
@@ -269,13 +272,14 @@ first-place-is scripts jobs at place script begun named there within fresh = rw 
   goes_on = λ e. record { no_end = search rules; reply = None; waits = refl; stands = rw (script-at scripts.scripts at script there) (IsProgress-first script) };
 })
 
-pub IsSession-first : (scripts : Scripts) (state : State) (room : ℕ) (kept : List Place) → IsSound state → AreAnswered scripts.sources → state.jobs ≡ map new_job scripts.names
+pub IsSession-first : (scripts : Scripts) (state : State) (room : ℕ) (kept : List Place) → IsSound state → AreAnswered scripts.sources → AreShort scripts.sources → state.jobs ≡ map new_job scripts.names
     → IsTrue (list_all is_askable_script scripts.scripts) → length scripts.names ≡ length scripts.scripts → length scripts.scripts ≤ MOST_JOBS → MOST_JOBS ≤ room → kept ≡ map first_place scripts.scripts → IsSession scripts state [] room kept
-IsSession-first scripts state room kept sound answered begun askable named few enough fresh =
+IsSession-first scripts state room kept sound answered short begun askable named few enough fresh =
     let many : length kept ≡ length scripts.scripts = rw fresh (length-map scripts.scripts first_place) in
     record {
       sound = sound;
       answered = answered;
+      short = short;
       askable = askable;
       jobs = many;
       few = few;

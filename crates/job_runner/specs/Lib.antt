@@ -1,5 +1,6 @@
 pub mod Asked
 pub mod Ended
+pub mod Moments
 pub mod Session
 pub mod Made
 pub mod Places

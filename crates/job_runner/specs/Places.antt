@@ -9,6 +9,7 @@ use Rattle.library_steps.specs.State.{State, JobState, job_at, new_job}
 use Rattle.library_steps.specs.History.{is_running}
 use Rattle.library_model.specs.Ending.{is_end_job}
 use Rattle.answered_sources.specs.Answered.{AreAnswered}
+use Rattle.deposited_entries.specs.Deposits.{AreShort}
 use Rattle.joint_state.specs.Sound.{IsSound}
 use Rattle.library_model.specs.declared.limits.TheConstants.{MOST_JOBS}
 use Rattle.input_scripts.specs.declared.Scripts.{Scripts}
@@ -54,10 +55,11 @@ pub record IsPlace (scripts : List Script) (jobs : List JobState) (calls : List 
 abbrev pub unended : List Place → ℕ
 unended kept = count_by (λ place. not place.ended) kept
 
--- a sound library, sources that can be made a file so far, each job's place, and room in the history for the ENDJOB of each job
+-- a sound library, sources that can be made a file so far and fit into the journal, each job's place, and room in the history for the ENDJOB of each job
 pub record IsSession (scripts : Scripts) (state : State) (calls : List Call) (room : ℕ) (kept : List Place) : Type 0 where
   pub sound : IsSound state
   pub answered : AreAnswered scripts.sources
+  pub short : AreShort scripts.sources
   pub askable : IsTrue (list_all is_askable_script scripts.scripts)
   pub jobs : length kept ≡ length scripts.scripts
   pub few : length scripts.scripts ≤ MOST_JOBS
@@ -68,8 +70,10 @@ pub record IsSession (scripts : Scripts) (state : State) (calls : List Call) (ro
 abbrev pub first_place : Script → Place
 first_place script = record { progress = start script; waiting = None; ended = false }
 
--- the library with a job of each name begun, in order, after those that it had
+-- the library with a job of each name begun, in order, after those that it had; its journal has no more entries than before
 pub record BeginsJobs {S : Type 0} (old new : LibraryOver S) (names : List (List ℕ)) : Type 0 where
   pub state : new.state ≡ record old.state { jobs = old.state.jobs ++ map new_job names }
   pub store : new.store ≡ old.store
+  pub receiver : new.book.chain.first ≡ old.book.chain.first
+  pub forced : new.book.forced ≡ old.book.forced
   pub failed : new.failed ≡ old.failed

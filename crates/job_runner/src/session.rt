@@ -4,9 +4,11 @@ ghost use Rattle.std.specs.List.{list_all};
 ghost use Rattle.library_model.specs.declared.limits.TheConstants.{MOST_JOBS};
 ghost use Rattle.library_model.specs.declared.calls.Call.{Call};
 ghost use Rattle.library_model.specs.declared.replies.Reply.{Reply as ReplyValue};
-ghost use Rattle.library_steps.specs.State.{empty_library, new_job};
+ghost use Rattle.library_steps.specs.State.{new_job};
 ghost use Rattle.answered_sources.specs.Answered.{AreAnswered};
 ghost use Rattle.built_requests.specs.Built.{is_built};
+ghost use Rattle.deposited_entries.specs.Deposits.{AreShort};
+ghost use Rattle.joint_state.specs.Sound.{IsSound};
 ghost use Rattle.library_model.specs.Ending.{is_end_job};
 ghost use Rattle.job_runner.specs.declared.session.Stepped.TheVariants.{Called, Ended, Stopped};
 ghost use Rattle.job_runner.specs.declared.session.Stepped.TheVariants as stepped;
@@ -28,7 +30,7 @@ use library_model::calls::Call;
 use library_model::limits::MOST_JOBS;
 use library_model::replies::Reply;
 use library_model::requests::Request;
-use sound_histories::each_call_leaves_a_sound_library;
+use run_laws::jobs_begin_in_a_sound_library;
 use std::alloc::{AllocError, Global};
 use std::marker::Model;
 use store_model::{Clock, Store};
@@ -40,7 +42,7 @@ pub enum Stepped {
     Called,
     /// The job had ended.
     Ended,
-    /// The library has failed.
+    /// The library had failed, and no call was made.
     Stopped,
     /// There was no memory for a call; the session is as it was. It doesn't come where the last reply ends the job.
     NoMemory,
@@ -86,15 +88,18 @@ impl<S: Store, C: Clock> Model for Session<S, C> {
 }
 
 impl<S: Store, C: Clock> Session<S, C> {
-    /// Begins the jobs of the scripts in order over a library with nothing in it. Want of memory hands library and clock back.
+    /// Begins the jobs of the scripts in order over a library in which no job has begun. Want of memory hands library and clock back.
     pub fn new(
         alloc: Global,
         library: Library<S>,
         clock: C,
         scripts: Scripts,
     ) -> Result<Session<S, C>, (Library<S>, C)>
-        requires empty { library.state ≡ empty_library }
+        requires alive { library.failed ≡ false }
+        requires sound { IsSound library.state }
+        requires none { library.state.jobs ≡ [] }
         requires answered { AreAnswered scripts.sources }
+        requires short { AreShort scripts.sources }
         requires askable { IsTrue (list_all is_askable_script scripts.scripts) }
         requires named { length scripts.names ≡ length scripts.scripts }
         requires few { length scripts.scripts ≤ MOST_JOBS }
@@ -104,8 +109,8 @@ impl<S: Store, C: Clock> Session<S, C> {
         ensures clock { IfOk result (λ session. session.clock ≡ clock) }
         ensures back { IfErr result (λ parts. (parts.0.store ≡ library.store) × (parts.1 ≡ clock)) }
     {
-        // A library in which jobs have begun and nothing else is sound.
-        each_call_leaves_a_sound_library();
+        // A sound library in which its first jobs begin stays sound.
+        jobs_begin_in_a_sound_library();
         let mut library = library;
         let mut history = History::new(alloc);
         if begin_jobs(&mut library, scripts.names.as_slice()).is_err() {
@@ -124,6 +129,13 @@ impl<S: Store, C: Clock> Session<S, C> {
                 history,
             }),
         }
+    }
+
+    /// Whether a call has found the store at fault. That call was the last.
+    pub fn failed(&self) -> bool
+        ensures { result ≡ self.now.library.failed }
+    {
+        self.library.failed()
     }
 
     /// Hands the store and the clock back.
@@ -147,7 +159,7 @@ impl<S: Store, C: Clock> Session<S, C> {
         ensures done { result ≡ Ran.Done → (job : ℕ) → 1 ≤ job → job ≤ length self.new.scripts.scripts → IsTrue (has_ended job self.new.calls) }
         ensures unfinished { result ≢ Ran.Done → (job : ℕ) × (1 ≤ job) × (job ≤ length self.new.scripts.scripts) × (has_ended job self.new.calls ≡ false) }
         ensures stopped { result ≡ Ran.Stopped → self.new.library.failed ≡ true }
-        ensures made { (made : List Call) × HasMade C.gives self.old self.new made × AreInTurn (length self.old.scripts.scripts) schedule.now self.old.calls made }
+        ensures made { (made : List Call) × HasMade S.tells S.disk C.gives self.old self.new made × AreInTurn (length self.old.scripts.scripts) schedule.now self.old.calls made }
     {
         match schedule {
             Schedule::Jobs(turns) => self.run_by_turns(turns.as_slice()),
@@ -161,7 +173,7 @@ impl<S: Store, C: Clock> Session<S, C> {
         ensures done { result ≡ Ran.Done → (job : ℕ) → 1 ≤ job → job ≤ length self.new.scripts.scripts → IsTrue (has_ended job self.new.calls) }
         ensures unfinished { result ≢ Ran.Done → (job : ℕ) × (1 ≤ job) × (job ≤ length self.new.scripts.scripts) × (has_ended job self.new.calls ≡ false) }
         ensures stopped { result ≡ Ran.Stopped → self.new.library.failed ≡ true }
-        ensures made { (made : List Call) × HasMade C.gives self.old self.new made × AreByTurns (length self.old.scripts.scripts) turns.now self.old.calls made }
+        ensures made { (made : List Call) × HasMade S.tells S.disk C.gives self.old self.new made × AreByTurns (length self.old.scripts.scripts) turns.now self.old.calls made }
     {
         for turn in turns {
             match self.step_job(*turn) {
@@ -180,7 +192,7 @@ impl<S: Store, C: Clock> Session<S, C> {
         ensures done { result ≡ Ran.Done → (job : ℕ) → 1 ≤ job → job ≤ length self.new.scripts.scripts → IsTrue (has_ended job self.new.calls) }
         ensures unfinished { result ≢ Ran.Done → (job : ℕ) × (1 ≤ job) × (job ≤ length self.new.scripts.scripts) × (has_ended job self.new.calls ≡ false) }
         ensures stopped { result ≡ Ran.Stopped → self.new.library.failed ≡ true }
-        ensures made { (made : List Call) × HasMade C.gives self.old self.new made × AreByTurns (length self.old.scripts.scripts) [] self.old.calls made }
+        ensures made { (made : List Call) × HasMade S.tells S.disk C.gives self.old self.new made × AreByTurns (length self.old.scripts.scripts) [] self.old.calls made }
     {
         let jobs = self.jobs();
         for job in 0..jobs {
@@ -199,7 +211,7 @@ impl<S: Store, C: Clock> Session<S, C> {
         ensures done { result ≡ Ran.Done → IsTrue (has_ended job self.new.calls) }
         ensures unfinished { result ≢ Ran.Done → has_ended job self.new.calls ≡ false }
         ensures stopped { result ≡ Ran.Stopped → self.new.library.failed ≡ true }
-        ensures made { (made : List Call) × HasMade C.gives self.old self.new made × AreByTurns (length self.old.scripts.scripts) [] self.old.calls made }
+        ensures made { (made : List Call) × HasMade S.tells S.disk C.gives self.old self.new made × AreByTurns (length self.old.scripts.scripts) [] self.old.calls made }
         ensures others { (other : ℕ) → other ≢ job → calls_of other self.new.calls ≡ calls_of other self.old.calls }
     {
         loop {
@@ -217,7 +229,7 @@ impl<S: Store, C: Clock> Session<S, C> {
         ensures done { result ≡ Ran.Done → (job : ℕ) → 1 ≤ job → job ≤ length self.new.scripts.scripts → IsTrue (has_ended job self.new.calls) }
         ensures unfinished { result ≢ Ran.Done → (job : ℕ) × (1 ≤ job) × (job ≤ length self.new.scripts.scripts) × (has_ended job self.new.calls ≡ false) }
         ensures stopped { result ≡ Ran.Stopped → self.new.library.failed ≡ true }
-        ensures made { (made : List Call) × HasMade C.gives self.old self.new made × AreInRound (length self.old.scripts.scripts) 0 self.old.calls made }
+        ensures made { (made : List Call) × HasMade S.tells S.disk C.gives self.old self.new made × AreInRound (length self.old.scripts.scripts) 0 self.old.calls made }
     {
         loop {
             match self.make_round() {
@@ -234,7 +246,7 @@ impl<S: Store, C: Clock> Session<S, C> {
         ensures ended { result ≡ Ended → (job : ℕ) → 1 ≤ job → job ≤ length self.new.scripts.scripts → IsTrue (has_ended job self.new.calls) }
         ensures unfinished { result ≢ Ended → result ≢ Called → (job : ℕ) × (1 ≤ job) × (job ≤ length self.new.scripts.scripts) × (has_ended job self.new.calls ≡ false) }
         ensures stopped { result ≡ Stopped → self.new.library.failed ≡ true }
-        ensures made { (made : List Call) × HasMade C.gives self.old self.new made × AreInRound (length self.old.scripts.scripts) 0 self.old.calls made × (result ≡ Called → (more : List Call) → AreInRound (length self.old.scripts.scripts) 0 self.new.calls more → AreInRound (length self.old.scripts.scripts) 0 self.old.calls (made ++ more)) }
+        ensures made { (made : List Call) × HasMade S.tells S.disk C.gives self.old self.new made × AreInRound (length self.old.scripts.scripts) 0 self.old.calls made × (result ≡ Called → (more : List Call) → AreInRound (length self.old.scripts.scripts) 0 self.new.calls more → AreInRound (length self.old.scripts.scripts) 0 self.old.calls (made ++ more)) }
         ensures nearer { result ≡ Called → all_remaining (length self.old.scripts.scripts) self.new.calls < all_remaining (length self.old.scripts.scripts) self.old.calls }
     {
         let jobs = self.jobs();
@@ -290,7 +302,7 @@ impl<S: Store, C: Clock> Session<S, C> {
         ensures stopped { result ≡ Stopped → self.old.library.failed ≡ true }
         ensures memory { result ≡ stepped.NoMemory → LeavesRunning (script_of self.old.scripts.scripts job) (replies_of job self.old.calls) }
         ensures unchanged { result ≢ Called → self.new ≡ self.old }
-        ensures called { result ≡ Called → (made : Call) × (made.job ≡ job) × HasMade C.gives self.old self.new (made ∷ []) }
+        ensures called { result ≡ Called → (made : Call) × (made.job ≡ job) × HasMade S.tells S.disk C.gives self.old self.new (made ∷ []) }
         ensures nearer { result ≡ Called → remaining job self.new.calls < remaining job self.old.calls }
     {
         let place = &mut self.places[job as usize - 1];

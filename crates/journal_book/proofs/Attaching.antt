@@ -238,6 +238,31 @@ switch_exactly old middle entries more a b c first all forces attaches =
     (subst (λ (n : ℕ). Leaves b c (IsKept n middle.forced (entries ++ more))) first attaches)
     (λ areas kept. record { count = kept.count; which = inr (omega (arith, all, kept.at_least)); at_most = kept.at_most; spells = kept.spells }))
 
+-- where memory is wanting for the next receiver, a stop leaves all entries, which are forced
+pub attach_unswitched : (book : BookState) (entries : List Entry) (disk : Disk) (holds : Holds book entries disk) → book.waiting ≡ 0 → (new : Disk) → Leaves disk new (AreChained book.chain.first holds.kept)
+    → Leaves disk new (SpellEntries book.chain.first entries)
+attach_unswitched book entries disk holds none new leaves =
+    leaves_less disk new (AreChained book.chain.first holds.kept) (SpellEntries book.chain.first entries) leaves
+    (λ c chained. record { kept = holds.kept; chained = chained; holds = subst (λ (l : List Entry). HoldsEntries book.chain.first holds.kept l) (sym whole) holds.keeps.on_disk })
+  where
+    whole : entries ≡ holds.keeps.front
+    whole =
+        holds.keeps.all ∙ ap (λ (l : List Entry). holds.keeps.front ++ l) (no_tail holds.keeps.tail (sym none ∙ holds.keeps.waiting)) ∙ append-nil holds.keeps.front
+
+pub switch_unswitched : (old middle : BookState) (entries : List Entry) (a b c : Disk) → middle.chain.first ≡ old.chain.first → Leaves a b (IsForcedOrFrom old.chain.first old.forced (length entries) entries)
+    → Leaves b c (SpellEntries middle.chain.first entries) → Leaves a c (IsForcedOrFrom old.chain.first old.forced (length entries) entries)
+switch_unswitched old middle entries a b c first forces wants =
+    leaves_then a b c (IsForcedOrFrom old.chain.first old.forced (length entries) entries) forces
+    (leaves_less b c (SpellEntries middle.chain.first entries) (IsForcedOrFrom old.chain.first old.forced (length entries) entries) wants
+    (λ areas spells. record {
+      count = length entries;
+      which = inr (omega arith);
+      at_most = omega arith;
+      spells =
+          subst (λ (n : ℕ). SpellEntries n (take (length entries) entries) areas) first
+          (subst (λ (l : List Entry). SpellEntries middle.chain.first l areas) (sym (take_all (length entries) entries (omega arith))) spells);
+    }))
+
 -- a count that rises after it stood or rose
 pub rose_after : (a b c : ℕ) → a ≤ b → Rose b c → Rose a c
 rose_after a b c upto rose = omega (arith, upto, rose)

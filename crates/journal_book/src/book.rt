@@ -9,6 +9,7 @@ ghost use Rattle.entry_codec.specs.Drafts.{numbered};
 ghost use Rattle.entry_codec.specs.Spelling.{HasSpelling, IsSpelled, spelling};
 ghost use Rattle.receiver_chain.specs.Receivers.{Kept};
 ghost use Rattle.receiver_chain.specs.Chain.{attached_of, last_of as last_in_chain};
+ghost use Rattle.receiver_chain.specs.Others.{LeavesRoots};
 ghost use Rattle.journal_book.specs.Entries.{IsInside, IsNoEnd};
 ghost use Rattle.journal_book.specs.Book.{HasMoreRoom, Holds, IsHeld, Keeps, last_of, next_of, with_entry};
 ghost use Rattle.journal_book.specs.Kept.{IsForcedOrFrom, IsKept};
@@ -207,6 +208,7 @@ impl Book {
         ensures forced { OnOk result (S.tells → (entries : List Entry) → Holds self.old entries (S.disk store.old) → Holds self.new entries (S.disk store.new)) }
         ensures moments { S.tells → (entries : List Entry) → Holds self.old entries (S.disk store.old) → Leaves (S.disk store.old) (S.disk store.new) (IsKept self.old.chain.first self.old.forced entries) }
         ensures exactly { S.tells → (entries : List Entry) → Holds self.old entries (S.disk store.old) → Leaves (S.disk store.old) (S.disk store.new) (IsForcedOrFrom self.old.chain.first self.old.forced (length entries) entries) }
+        ensures roots { LeavesRoots (S.disk store.old) (S.disk store.new) }
         ensures all { OnOk result (self.new.forced ≡ self.old.forced + self.old.waiting) }
         ensures nothing_waits { OnOk result (self.new.waiting ≡ 0) }
         ensures empty { OnOk result (self.new.buffered ≡ []) }
@@ -238,6 +240,7 @@ impl Book {
         ensures forced { OnOk result (S.tells → (entries : List Entry) → Holds self.old entries (S.disk store.old) → Holds self.new entries (S.disk store.new)) }
         ensures moments { S.tells → (entries : List Entry) → Holds self.old entries (S.disk store.old) → Leaves (S.disk store.old) (S.disk store.new) (IsKept self.old.chain.first self.old.forced entries) }
         ensures exactly { S.tells → (entries : List Entry) → Holds self.old entries (S.disk store.old) → Leaves (S.disk store.old) (S.disk store.new) (IsForcedOrFrom self.old.chain.first self.old.forced (length entries) entries) }
+        ensures roots { LeavesRoots (S.disk store.old) (S.disk store.new) }
         ensures all { OnOk result (self.new.forced ≡ self.old.forced + self.old.waiting) }
         ensures nothing_waits { self.new.waiting ≡ 0 }
         ensures empty { self.new.buffered ≡ [] }

@@ -5,6 +5,7 @@ ghost use Rattle.store_model.specs.Faults.{Rose};
 ghost use Rattle.entry_codec.specs.declared.entries.Entry.{Entry};
 ghost use Rattle.receiver_chain.specs.Receivers.{area_of};
 ghost use Rattle.receiver_chain.specs.Chain.{attached_of, log_at};
+ghost use Rattle.receiver_chain.specs.Others.{LeavesRoots};
 ghost use Rattle.journal_book.specs.Book.{Holds, from_sequence, next_of};
 ghost use Rattle.journal_book.specs.Kept.{IsKept};
 
@@ -25,6 +26,7 @@ impl Book {
         ensures receiver { OnOk result (self.new.chain.first ≡ receiver + 1) }
         ensures cut { OnOk result (S.tells → (number : ℕ) → self.old.chain.first ≤ number → number ≤ receiver → (S.disk store.new).seen (area_of number) ≡ []) }
         ensures others { (area : ℕ) → ((number : ℕ) → self.old.chain.first ≤ number → number ≤ receiver → area ≢ area_of number) → (S.disk store.new).seen area ≡ (S.disk store.old).seen area }
+        ensures roots { LeavesRoots (S.disk store.old) (S.disk store.new) }
         ensures least { self.old.first ≤ self.new.first }
         ensures next { next_of self.new ≡ next_of self.old }
         ensures waiting { self.new.waiting ≡ self.old.waiting }

@@ -1,5 +1,5 @@
 //! How the journal goes on in the next receiver. `book.rt` has the book.
-ghost use Rattle.std.specs.Prelude.{◌≡◌, ◌+◌, ◌<◌, ◌≤◌, ◌^◌, ℕ, true, List, [], ◌∷◌, ◌++◌, length, IfOk, OnOk, OnErr, IsErrOf};
+ghost use Rattle.std.specs.Prelude.{◌≡◌, ◌⊎◌, ◌+◌, ◌<◌, ◌≤◌, ◌^◌, ℕ, true, List, [], ◌∷◌, ◌++◌, length, IfOk, OnOk, OnErr, IsErrOf};
 ghost use Rattle.store_model.specs.Disk.{Leaves};
 ghost use Rattle.store_model.specs.Faults.{Rose};
 ghost use Rattle.gated_log.specs.Blocks.{frame};
@@ -9,8 +9,9 @@ ghost use Rattle.entry_codec.specs.Drafts.{numbered};
 ghost use Rattle.entry_codec.specs.Spelling.{HasSpelling, IsSpelled, spelling};
 ghost use Rattle.receiver_chain.specs.declared.numbers.TheConstants.{MAX_RECEIVER};
 ghost use Rattle.receiver_chain.specs.Chain.{attached_of};
+ghost use Rattle.receiver_chain.specs.Others.{LeavesRoots};
 ghost use Rattle.journal_book.specs.Book.{Holds, IsHeld, last_of, next_of};
-ghost use Rattle.journal_book.specs.Kept.{IsForcedOrFrom, IsKept};
+ghost use Rattle.journal_book.specs.Kept.{IsForcedOrFrom, IsKept, SpellEntries};
 ghost use Rattle.journal_book.specs.Switch.{AreTieBlocks, IsTie, tied_by};
 
 use crate::book::{Book, close, empty_block};
@@ -44,6 +45,7 @@ impl Book {
         ensures switched { OnOk result (S.tells → (entries : List Entry) → Holds self.old entries (S.disk store.old) → Holds self.new (entries ++ tied_by nr pr (next_of self.old)) (S.disk store.new)) }
         ensures moments { S.tells → (entries : List Entry) → Holds self.old entries (S.disk store.old) → Leaves (S.disk store.old) (S.disk store.new) (IsKept self.old.chain.first self.old.forced (entries ++ tied_by nr pr (next_of self.old))) }
         ensures exactly { S.tells → (entries : List Entry) → Holds self.old entries (S.disk store.old) → Leaves (S.disk store.old) (S.disk store.new) (IsForcedOrFrom self.old.chain.first self.old.forced (length entries) (entries ++ tied_by nr pr (next_of self.old))) }
+        ensures roots { LeavesRoots (S.disk store.old) (S.disk store.new) }
         ensures number { IfOk result (λ receiver. receiver ≡ attached_of self.old.chain + 1) }
         ensures attached { IfOk result (λ receiver. receiver ≡ attached_of self.new.chain) }
         ensures nothing_waits { OnOk result (self.new.waiting ≡ 0) }
@@ -58,6 +60,11 @@ impl Book {
         ensures less_places { OnOk result (self.old.chain.room ≤ self.new.chain.room + 1) }
         ensures same_number { OnErr result (attached_of self.new.chain ≡ attached_of self.old.chain) }
         ensures no_memory { IsErrOf result ChainFault.NoMemory → S.tells → (entries : List Entry) → Holds self.old entries (S.disk store.old) → Holds self.new entries (S.disk store.new) }
+        ensures wanting { IsErrOf result ChainFault.NoMemory → S.tells → (entries : List Entry) → Holds self.old entries (S.disk store.old) → Leaves (S.disk store.old) (S.disk store.new) (IsForcedOrFrom self.old.chain.first self.old.forced (length entries) entries) }
+        ensures same_next { IsErrOf result ChainFault.NoMemory → next_of self.new ≡ next_of self.old }
+        ensures same_forced { IsErrOf result ChainFault.NoMemory → (self.new.forced ≡ self.old.forced) ⊎ (self.new.waiting ≡ 0) }
+        ensures same_places { IsErrOf result ChainFault.NoMemory → self.old.chain.room ≤ self.new.chain.room + 1 }
+        ensures faults { (S.disk store.old).faults ≤ (S.disk store.new).faults }
         ensures cause { IsErrOf result ChainFault.StoreFault → Rose (S.disk store.old).faults (S.disk store.new).faults }
     {
         let next = self.next_sequence();
@@ -89,6 +96,7 @@ impl Book {
         ensures switched { OnOk result (S.tells → (entries : List Entry) → Holds self.old entries (S.disk store.old) → Holds self.new (entries ++ nr.now ∷ pr.now ∷ []) (S.disk store.new)) }
         ensures moments { S.tells → (entries : List Entry) → Holds self.old entries (S.disk store.old) → Leaves (S.disk store.old) (S.disk store.new) (IsKept self.old.chain.first self.old.forced (entries ++ nr.now ∷ pr.now ∷ [])) }
         ensures exactly { S.tells → (entries : List Entry) → Holds self.old entries (S.disk store.old) → Leaves (S.disk store.old) (S.disk store.new) (IsForcedOrFrom self.old.chain.first self.old.forced (length entries) (entries ++ nr.now ∷ pr.now ∷ [])) }
+        ensures roots { LeavesRoots (S.disk store.old) (S.disk store.new) }
         ensures number { IfOk result (λ receiver. receiver ≡ attached_of self.old.chain + 1) }
         ensures attached { IfOk result (λ receiver. receiver ≡ attached_of self.new.chain) }
         ensures nothing_waits { OnOk result (self.new.waiting ≡ 0) }
@@ -103,6 +111,11 @@ impl Book {
         ensures less_places { OnOk result (self.old.chain.room ≤ self.new.chain.room + 1) }
         ensures same_number { OnErr result (attached_of self.new.chain ≡ attached_of self.old.chain) }
         ensures no_memory { IsErrOf result ChainFault.NoMemory → S.tells → (entries : List Entry) → Holds self.old entries (S.disk store.old) → Holds self.new entries (S.disk store.new) }
+        ensures wanting { IsErrOf result ChainFault.NoMemory → S.tells → (entries : List Entry) → Holds self.old entries (S.disk store.old) → Leaves (S.disk store.old) (S.disk store.new) (IsForcedOrFrom self.old.chain.first self.old.forced (length entries) entries) }
+        ensures same_next { IsErrOf result ChainFault.NoMemory → next_of self.new ≡ next_of self.old }
+        ensures same_forced { IsErrOf result ChainFault.NoMemory → (self.new.forced ≡ self.old.forced) ⊎ (self.new.waiting ≡ 0) }
+        ensures same_places { IsErrOf result ChainFault.NoMemory → self.old.chain.room ≤ self.new.chain.room + 1 }
+        ensures faults { (S.disk store.old).faults ≤ (S.disk store.new).faults }
         ensures cause { IsErrOf result ChainFault.StoreFault → Rose (S.disk store.old).faults (S.disk store.new).faults }
     {
         let ending = framed_entry(alloc, nr)?;
@@ -128,6 +141,7 @@ impl Book {
         requires few { last_of self.old ≤ 2 ^ 63 }
         ensures switched { OnOk result (S.tells → (entries : List Entry) (nr pr : Entry) → AreTieBlocks self.old nr pr ending.now beginning.now → Holds self.old entries (S.disk store.old) → Holds self.new (entries ++ nr ∷ pr ∷ []) (S.disk store.new)) }
         ensures moments { S.tells → (entries : List Entry) (nr pr : Entry) → AreTieBlocks self.old nr pr ending.now beginning.now → Holds self.old entries (S.disk store.old) → Leaves (S.disk store.old) (S.disk store.new) (IsKept self.old.chain.first self.old.forced (entries ++ nr ∷ pr ∷ [])) }
+        ensures roots { LeavesRoots (S.disk store.old) (S.disk store.new) }
         ensures number { IfOk result (λ receiver. receiver ≡ attached_of self.old.chain + 1) }
         ensures attached { IfOk result (λ receiver. receiver ≡ attached_of self.new.chain) }
         ensures nothing_waits { self.new.waiting ≡ self.old.waiting }
@@ -140,6 +154,9 @@ impl Book {
         ensures places { self.new.chain.room ≡ self.old.chain.room }
         ensures same_number { OnErr result (attached_of self.new.chain ≡ attached_of self.old.chain) }
         ensures no_memory { IsErrOf result ChainFault.NoMemory → S.tells → (entries : List Entry) → Holds self.old entries (S.disk store.old) → Holds self.new entries (S.disk store.new) }
+        ensures same_count { OnErr result (self.new.forced ≡ self.old.forced) }
+        ensures unswitched { IsErrOf result ChainFault.NoMemory → S.tells → (entries : List Entry) → Holds self.old entries (S.disk store.old) → Leaves (S.disk store.old) (S.disk store.new) (SpellEntries self.old.chain.first entries) }
+        ensures faults { (S.disk store.old).faults ≤ (S.disk store.new).faults }
         ensures cause { IsErrOf result ChainFault.StoreFault → Rose (S.disk store.old).faults (S.disk store.new).faults }
     {
         let start = self.next_start();

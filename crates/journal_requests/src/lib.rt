@@ -6,4 +6,4 @@ mod receivers;
 mod spelled;
 
 pub use display::display_journal;
-pub use receivers::{change_journal, delete_receiver};
+pub use receivers::{apply_attach, attach_drafts, delete_receiver, plan_attach, prepare_attach};

@@ -3,13 +3,15 @@ ghost use Rattle.std.specs.Prelude.{◌≡◌, ℕ, ◌+◌, ◌≤◌, ◌<◌,
 ghost use Rattle.std.specs.Option.{option_map_or};
 ghost use Rattle.library_model.specs.declared.replies.Reply.TheVariants.{StillNeeded};
 ghost use Rattle.library_steps.specs.History.{is_running};
-ghost use Rattle.library_steps.specs.Receivers.{attach_change, attach_plan, change_journal, delete_receiver, give_up_plan, last_in};
+ghost use Rattle.entry_codec.specs.declared.kinds.EntryKind.TheVariants.{NextReceiver, PreviousReceiver};
+ghost use Rattle.library_steps.specs.Drafts.{author_of, library_draft};
+ghost use Rattle.library_steps.specs.Receivers.{attach_change, attach_plan, delete_receiver, give_up_plan, last_in};
 ghost use Rattle.library_steps.specs.State.{job_at, memory_of};
 ghost use Rattle.library_steps.specs.declared.limits.TheConstants.{LAST_RECEIVER, LAST_SEQUENCE};
 ghost use Rattle.library_parts.specs.Answers.{Answers, Gives};
 
 use draft_list::{Author, may_deposit};
-use entry_codec::EntryKind;
+use entry_codec::{Draft, EntryKind};
 use library_model::replies::{LimitKind, Missing, Reply};
 use library_model::requests::DeleteReceiver;
 use library_parts::{Contents, Stop};
@@ -19,18 +21,10 @@ use std::alloc::AllocError;
 /// The bytes of the two entries that end a receiver and begin the next.
 const SWITCH_BYTES: u64 = 106;
 
-/// Attaches a new receiver.
-pub fn change_journal(contents: &mut Contents, job: u32, timestamp: u64) -> Result<Reply, Stop>
-    requires running { IsTrue (is_running (job_at job contents.old.state.jobs)) }
-    ensures answers { Answers contents.old.state contents.new.state result (change_journal (memory_of contents.old.state) job timestamp) }
-{
-    let number = plan_attach(contents)?;
-    prepare_attach(contents)?;
-    Ok(apply_attach(contents, job, timestamp, number))
-}
-
+/// What CHGJRN refuses, or the number of the receiver that it attaches. The library asks for the memory of the journal on the disk between these
+/// steps: `plan_attach`, `prepare_attach`, `attach_drafts` for that journal, and `apply_attach`.
 #[tactic(auto, unfolding(library_steps::specs::Receivers::attach_plan))]
-fn plan_attach(contents: &Contents) -> Result<u32, Stop>
+pub fn plan_attach(contents: &Contents) -> Result<u32, Stop>
     ensures plan { Gives result (attach_plan (memory_of contents.now.state)) }
     ensures next { IfOk result (λ number. number ≡ contents.now.state.receivers.attached + 1) }
     ensures few { IfOk result (λ number. number ≤ LAST_RECEIVER) }
@@ -47,14 +41,29 @@ fn plan_attach(contents: &Contents) -> Result<u32, Stop>
     Ok(attached + 1)
 }
 
-fn prepare_attach(contents: &mut Contents) -> Result<(), AllocError>
+/// Makes room in memory for the two entries.
+pub fn prepare_attach(contents: &mut Contents) -> Result<(), AllocError>
     ensures state { contents.new.state ≡ contents.old.state }
     ensures room { OnOk result (2 ≤ contents.new.room.entries) }
 {
     contents.reserve_entries(2, SWITCH_BYTES)
 }
 
-fn apply_attach(contents: &mut Contents, job: u32, timestamp: u64, number: u32) -> Reply
+/// The entry that ends the receiver, and the one that begins the next.
+pub fn attach_drafts(contents: &Contents, job: u32, timestamp: u64, number: u32) -> (Draft, Draft)
+    requires running { IsTrue (is_running (job_at job contents.now.state.jobs)) }
+    ensures ending { result.0 ≡ library_draft (author_of (memory_of contents.now.state) job timestamp) (NextReceiver number) }
+    ensures beginning { result.1 ≡ library_draft (author_of (memory_of contents.now.state) job timestamp) (PreviousReceiver contents.now.state.receivers.attached) }
+{
+    let (_, attached) = contents.receivers();
+    let author = Author::of(contents, job, timestamp);
+    let next = author.library_draft(EntryKind::NextReceiver { number });
+    let previous = author.library_draft(EntryKind::PreviousReceiver { number: attached });
+    (next, previous)
+}
+
+/// Attaches the receiver, and deposits the two entries. It takes no memory.
+pub fn apply_attach(contents: &mut Contents, job: u32, timestamp: u64, number: u32) -> Reply
     requires running { IsTrue (is_running (job_at job contents.old.state.jobs)) }
     requires number { number ≡ contents.old.state.receivers.attached + 1 }
     requires few { number ≤ LAST_RECEIVER }
@@ -62,10 +71,7 @@ fn apply_attach(contents: &mut Contents, job: u32, timestamp: u64, number: u32) 
     requires room { 2 ≤ contents.old.room.entries }
     ensures { Answers contents.old.state contents.new.state (Ok result) (Ok (attach_change (memory_of contents.old.state) job timestamp number)) }
 {
-    let (_, attached) = contents.receivers();
-    let author = Author::of(contents, job, timestamp);
-    let next = author.library_draft(EntryKind::NextReceiver { number });
-    let previous = author.library_draft(EntryKind::PreviousReceiver { number: attached });
+    let (next, previous) = attach_drafts(contents, job, timestamp, number);
     let number = contents.switch(next, previous);
     Reply::Receiver { number }
 }

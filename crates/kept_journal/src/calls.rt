@@ -1,9 +1,10 @@
 //! What becomes of the entries of one call. `journal.rt` has the journal.
-ghost use Rattle.std.specs.Prelude.{◌≡◌, ◌+◌, ◌<◌, ◌≤◌, ℕ, true, false, List, ◌++◌, length, OnOk, IsErr};
+ghost use Rattle.std.specs.Prelude.{◌≡◌, ◌⊎◌, ◌+◌, ◌<◌, ◌≤◌, ℕ, true, false, List, ◌++◌, length, OnOk, IsErr};
 ghost use Rattle.store_model.specs.Disk.{Leaves};
 ghost use Rattle.store_model.specs.Faults.{Rose};
 ghost use Rattle.entry_codec.specs.declared.entries.Entry.{Entry};
 ghost use Rattle.receiver_chain.specs.Chain.{attached_of};
+ghost use Rattle.receiver_chain.specs.Others.{LeavesRoots};
 ghost use Rattle.journal_book.specs.Book.{Holds, IsHeld, next_of};
 ghost use Rattle.journal_book.specs.Kept.{IsForcedOrFrom};
 ghost use Rattle.kept_journal.specs.Journals.{MayWait};
@@ -27,7 +28,9 @@ impl KeptJournal {
         requires place { 0 < self.old.chain.room }
         ensures kept { OnOk result (S.tells → (all : List Entry) → Holds self.old all (S.disk store.old) → Holds self.new (all ++ entries.now) (S.disk store.new)) }
         ensures moments { S.tells → (all : List Entry) → Holds self.old all (S.disk store.old) → Leaves (S.disk store.old) (S.disk store.new) (IsForcedOrFrom self.old.chain.first self.old.forced (length (all ++ entries.now)) (all ++ entries.now)) }
+        ensures roots { LeavesRoots (S.disk store.old) (S.disk store.new) }
         ensures acknowledged { OnOk result (forced ≡ true → self.new.waiting ≡ 0) }
+        ensures whole { OnOk result ((self.new.forced ≡ self.old.forced) ⊎ (self.new.waiting ≡ 0)) }
         ensures little { OnOk result (length self.new.buffered < MUCH) }
         ensures next { OnOk result (next_of self.new ≡ next_of self.old + length entries.now) }
         ensures first { self.new.first ≡ self.old.first }
@@ -47,7 +50,9 @@ impl KeptJournal {
         requires place { 0 < self.old.chain.room }
         ensures kept { OnOk result (S.tells → (all : List Entry) → Holds self.old all (S.disk store.old) → Holds self.new all (S.disk store.new)) }
         ensures moments { S.tells → (all : List Entry) → Holds self.old all (S.disk store.old) → Leaves (S.disk store.old) (S.disk store.new) (IsForcedOrFrom self.old.chain.first self.old.forced (length all) all) }
+        ensures roots { LeavesRoots (S.disk store.old) (S.disk store.new) }
         ensures acknowledged { OnOk result (forced ≡ true → self.new.waiting ≡ 0) }
+        ensures whole { OnOk result ((self.new.forced ≡ self.old.forced) ⊎ (self.new.waiting ≡ 0)) }
         ensures little { OnOk result (length self.new.buffered < MUCH) }
         ensures next { OnOk result (next_of self.new ≡ next_of self.old) }
         ensures first { self.new.first ≡ self.old.first }

@@ -1,5 +1,5 @@
 //! A book with room for the largest block, which takes the entries of whole calls.
-ghost use Rattle.std.specs.Prelude.{◌≡◌, ◌+◌, ◌<◌, ◌≤◌, ◌^◌, ℕ, true, List, [], ◌++◌, length, IfOk, OnOk, OnErr, IsErr, IsErrOf, IsOk, false};
+ghost use Rattle.std.specs.Prelude.{◌≡◌, ◌⊎◌, ◌+◌, ◌<◌, ◌≤◌, ◌^◌, ℕ, true, List, [], ◌++◌, length, IfOk, OnOk, OnErr, IsErr, IsErrOf, IsOk, false};
 ghost use Rattle.store_model.specs.Disk.{Leaves};
 ghost use Rattle.store_model.specs.Faults.{Rose};
 ghost use Rattle.entry_codec.specs.declared.entries.Entry.{Entry};
@@ -9,6 +9,7 @@ ghost use Rattle.entry_codec.specs.Spelling.{HasSpelling};
 ghost use Rattle.receiver_chain.specs.declared.numbers.TheConstants.{MAX_RECEIVER};
 ghost use Rattle.receiver_chain.specs.Receivers.{Kept};
 ghost use Rattle.receiver_chain.specs.Chain.{attached_of};
+ghost use Rattle.receiver_chain.specs.Others.{LeavesRoots};
 ghost use Rattle.journal_book.specs.Book.{HasMoreRoom, Holds, IsHeld, Keeps, last_of, next_of};
 ghost use Rattle.journal_book.specs.Entries.{spelled};
 ghost use Rattle.journal_book.specs.Kept.{IsForcedOrFrom};
@@ -110,6 +111,7 @@ impl KeptJournal {
         requires place { 0 < self.old.waiting → 0 < self.old.chain.room }
         ensures forced { OnOk result (S.tells → (entries : List Entry) → Holds self.old entries (S.disk store.old) → Holds self.new entries (S.disk store.new)) }
         ensures exactly { S.tells → (entries : List Entry) → Holds self.old entries (S.disk store.old) → Leaves (S.disk store.old) (S.disk store.new) (IsForcedOrFrom self.old.chain.first self.old.forced (length entries) entries) }
+        ensures roots { LeavesRoots (S.disk store.old) (S.disk store.new) }
         ensures all { OnOk result (self.new.forced ≡ self.old.forced + self.old.waiting) }
         ensures nothing_waits { OnOk result (self.new.waiting ≡ 0) }
         ensures empty { OnOk result (self.new.buffered ≡ []) }
@@ -142,6 +144,7 @@ impl KeptJournal {
         requires few { last_of self.old ≤ 2 ^ 63 }
         ensures switched { OnOk result (S.tells → (entries : List Entry) → Holds self.old entries (S.disk store.old) → Holds self.new (entries ++ tied_by nr pr (next_of self.old)) (S.disk store.new)) }
         ensures exactly { S.tells → (entries : List Entry) → Holds self.old entries (S.disk store.old) → Leaves (S.disk store.old) (S.disk store.new) (IsForcedOrFrom self.old.chain.first self.old.forced (length entries) (entries ++ tied_by nr pr (next_of self.old))) }
+        ensures roots { LeavesRoots (S.disk store.old) (S.disk store.new) }
         ensures number { IfOk result (λ receiver. receiver ≡ attached_of self.old.chain + 1) }
         ensures attached { IfOk result (λ receiver. receiver ≡ attached_of self.new.chain) }
         ensures nothing_waits { OnOk result (self.new.waiting ≡ 0) }
@@ -151,6 +154,12 @@ impl KeptJournal {
         ensures less_places { OnOk result (self.old.chain.room ≤ self.new.chain.room + 1) }
         ensures same_number { OnErr result (attached_of self.new.chain ≡ attached_of self.old.chain) }
         ensures no_memory { IsErrOf result ChainFault.NoMemory → S.tells → (entries : List Entry) → Holds self.old entries (S.disk store.old) → Holds self.new entries (S.disk store.new) }
+        ensures wanting { IsErrOf result ChainFault.NoMemory → S.tells → (entries : List Entry) → Holds self.old entries (S.disk store.old) → Leaves (S.disk store.old) (S.disk store.new) (IsForcedOrFrom self.old.chain.first self.old.forced (length entries) entries) }
+        ensures same_next { IsErrOf result ChainFault.NoMemory → next_of self.new ≡ next_of self.old }
+        ensures same_forced { IsErrOf result ChainFault.NoMemory → (self.new.forced ≡ self.old.forced) ⊎ (self.new.waiting ≡ 0) }
+        ensures same_places { IsErrOf result ChainFault.NoMemory → self.old.chain.room ≤ self.new.chain.room + 1 }
+        ensures no_longer { length self.new.buffered ≤ length self.old.buffered }
+        ensures faults { (S.disk store.old).faults ≤ (S.disk store.new).faults }
         ensures cause { IsErrOf result ChainFault.StoreFault → Rose (S.disk store.old).faults (S.disk store.new).faults }
     {
         self.book.switch(alloc, store, nr, pr)

@@ -1,5 +1,5 @@
 -- From the answer of what is in memory to the call: the library has the state of the step, and what holds between calls holds after it.
-use Rattle.std.proofs.Common.{◌≡◌, ℕ, false, IsTrue, List, Result, Ok, Err, IsErrOf, inl, inr, refl, sym, ◌∙◌, ap, subst}
+use Rattle.std.proofs.Common.{◌≡◌, ℕ, false, IsTrue, List, Result, Ok, Err, IsErrOf, inl, inr, refl, sym, ◌∙◌, ap}
 use Rattle.std.proofs.lemmas.Result.{IfOk-at_ok}
 use Rattle.built_requests.specs.Built.{is_built}
 use Rattle.library_model.specs.Ending.{is_end_job}
@@ -10,36 +10,25 @@ use Rattle.library_model.specs.declared.requests.Request.TheVariants as request
 use Rattle.library_model.specs.declared.sources.NamedSource.{NamedSource}
 use Rattle.library_steps.specs.State.{State, memory_of, job_at}
 use Rattle.library_steps.specs.Change.{Change, changed}
-use Rattle.library_steps.specs.History.{is_running, Standing}
+use Rattle.library_steps.specs.History.{is_running}
 use Rattle.library_steps.specs.Step.{change, step, MayAnswer}
 use Rattle.joint_state.specs.Sound.{IsSound}
 use Rattle.sound_histories.proofs.HistoryLemmas.{AnswersStaySound}
 use Rattle.library_parts.specs.Answers.{Answers, reply_of}
 use Rattle.library_parts.specs.declared.stop.Stop.{Stop}
 use Rattle.library_parts.specs.declared.stop.Stop.TheVariants as stop
-use Rattle.library_core.specs.Parts.{LibraryOver}
 use Rattle.library_core.specs.Running.{runs_after}
-use Rattle.library_core.specs.Stands.{Stands, Goes}
 use Rattle.library_core.proofs.RunLemmas.{runs-on}
 use Rattle.library_core.proofs.StepLemmas.{Leaves, change-leaves}
 
 -- the answer may be given where the memory has given it
-may-answer : (sources : List NamedSource) (old new : State) (job timestamp : ℕ) (r : Request) (result : Result Reply Stop) → Answers old new result (change sources old.entries (memory_of old) job timestamp r)
+pub may-answer : (sources : List NamedSource) (old new : State) (job timestamp : ℕ) (r : Request) (result : Result Reply Stop) → Answers old new result (change sources old.entries (memory_of old) job timestamp r)
     → (IsErrOf result stop.NoMemory → IsTrue (needs_memory r)) → MayAnswer sources old job timestamp r (reply_of result) new
 may-answer sources old new job timestamp r (Ok reply) (c, done, given, leads) needs =
     inl (sym (ap (changed old) done ∙ (λ i. (sym leads i, given i))))
 may-answer sources old new job timestamp r (Err stop.NoMemory) same needs = inr (same, refl, needs refl)
 may-answer sources old new job timestamp r (Err (stop.Refused reply)) (same, refused) needs =
     inl (sym (ap (changed old) refused ∙ (λ i. (sym same i, reply))))
-
-pub goes-answered : {S : Type 0} (sources : List NamedSource) (old new : LibraryOver S) (s : State) (job timestamp : ℕ) (r : Request) (result : Result Reply Stop) → Stands old s → new.failed ≡ false
-    → Answers old.state new.state result (change sources old.state.entries (memory_of old.state) job timestamp r) → (IsErrOf result stop.NoMemory → IsTrue (needs_memory r))
-    → Goes sources new s (record { job = job; timestamp = timestamp; request = r; reply = reply_of result })
-goes-answered sources old new s job timestamp r result stands alive answers needs = record {
-  outcome = Standing new.state;
-  comes = subst (λ (t : State). MayAnswer sources t job timestamp r (reply_of result) new.state) stands.state (may-answer sources old.state new.state job timestamp r result answers needs);
-  at = record { alive = alive; state = refl };
-}
 
 -- what may want memory, and what may be refused, is no ENDJOB
 needs-no_end : (r : Request) → IsTrue (needs_memory r) → is_end_job r ≡ false

@@ -9,3 +9,12 @@ pub mod AnsweredLemmas
 pub mod StepLemmas
 pub mod CallLemmas
 pub mod CallerLemmas
+pub mod ChangeLaws
+pub mod PlaceLemmas
+pub mod JournalLemmas
+pub mod OutcomeLemmas
+pub mod PutLemmas
+pub mod AnswerLemmas
+pub mod AttachLemmas
+pub mod RequestLemmas
+pub mod LibraryLemmas

@@ -1,9 +1,9 @@
 -- What holds of the plans and changes of a request where they aren't refused, followed from one refusal to the next.
-use Rattle.std.proofs.Common.{Option, Some, None, Result, Ok, Err, IfOk, IfSome}
+use Rattle.std.proofs.Common.{◌≡◌, Bool, true, false, Option, Some, None, Result, Ok, Err, IfOk, IfSome, refl}
 use Rattle.std.proofs.lemmas.Result.{IfOk-weaker}
 use Rattle.library_model.specs.declared.replies.Reply.{Reply}
 use Rattle.library_steps.specs.Change.{Change, does}
-use Rattle.library_steps.specs.Refusals.{◌>>=◌, found}
+use Rattle.library_steps.specs.Refusals.{◌>>=◌, found, refuse_if}
 
 -- what is there, where something is, is so
 pub record Holds {A : Type 0} (r : Result A Reply) (P : A → Type 0) : Type 0 where
@@ -35,3 +35,12 @@ bind-holds (Err e) Q next P here rest = record { holds = tt }
 pub does-holds : {A : Type 0} (effect : A → Change) (plan : Result A Reply) (P : Change → Type 0) → Holds plan (λ x. P (effect x)) → Holds (does effect plan) P
 does-holds effect (Ok x) P here = record { holds = here.holds }
 does-holds effect (Err e) P here = record { holds = tt }
+
+-- and backwards: what was found where nothing was refused
+pub bind-ok : {A B : Type 0} (r : Result A Reply) (next : A → Result B Reply) (b : B) → (r >>= next) ≡ Ok b → (a : A) × (r ≡ Ok a) × (next a ≡ Ok b)
+bind-ok (Ok a) next b h = (a, refl, h)
+bind-ok (Err e) next b h = absurd cc
+
+pub not-refused : (b : Bool) (reply : Reply) (x : Bool) → refuse_if b reply ≡ Ok x → b ≡ false
+not-refused true reply x h = absurd cc
+not-refused false reply x h = refl

@@ -1,9 +1,12 @@
 -- What a library is of a state, and what a call makes of it. (Our own.)
-use Rattle.std.specs.Prelude.{◌≡◌, ℕ, true, false, IsTrue, List}
+use Rattle.std.specs.Prelude.{◌≡◌, ℕ, true, false, IsTrue, if◌then◌else◌, List, length}
+use Rattle.entry_codec.specs.declared.entries.Entry.{Entry}
 use Rattle.library_model.specs.declared.calls.Call.{Call}
+use Rattle.library_model.specs.declared.requests.Request.{Request}
 use Rattle.library_model.specs.declared.sources.NamedSource.{NamedSource}
 use Rattle.library_steps.specs.State.{State, job_at}
 use Rattle.library_steps.specs.History.{is_running, Outcome, Standing, Failed, Comes}
+use Rattle.deposited_entries.specs.Deposits.{switches}
 use Rattle.joint_state.specs.Sound.{IsSound}
 use Rattle.library_core.specs.Parts.{LibraryOver}
 
@@ -28,3 +31,8 @@ pub record IsReady {S : Type 0} (job : ℕ) (library : LibraryOver S) : Type 0 w
   pub alive : library.failed ≡ false
   pub running : IsTrue (is_running (job_at job library.state.jobs))
   pub sound : IsSound library.state
+
+-- the least count, besides what was forced, at which a stop within a call ends the journal: with all entries of the call; CHGJRN forces what waits
+-- before it deposits its own
+abbrev pub whole_from : Request → (before behind : List Entry) → ℕ
+whole_from request before behind = if switches request then length before else length behind

@@ -1,7 +1,8 @@
-//! What a request asks for: each of them of the crate that does it.
-ghost use Rattle.std.specs.Prelude.{IsTrue, IsErrOf};
+//! What a request asks for: each of them of the crate that does it, but for CHGJRN, which `answering.rt` does step by step.
+ghost use Rattle.std.specs.Prelude.{◌≡◌, false, IsTrue, IsErrOf};
 ghost use Rattle.answered_sources.specs.Answered.{AreAnswered};
 ghost use Rattle.built_requests.specs.Built.{is_built};
+ghost use Rattle.deposited_entries.specs.Deposits.{switches};
 ghost use Rattle.library_model.specs.NeedsMemory.{needs_memory};
 ghost use Rattle.library_steps.specs.State.{memory_of, job_at, job_of};
 ghost use Rattle.library_steps.specs.History.{is_running};
@@ -17,7 +18,7 @@ use file_requests::{
     add_member, clear_member, close_file, create_logical_file, create_physical_file, delete_file,
     end_journaling, open_file, reorganize_member, start_journaling,
 };
-use journal_requests::{change_journal, delete_receiver, display_journal};
+use journal_requests::{delete_receiver, display_journal};
 use library_model::replies::Reply;
 use library_model::requests::Request;
 use library_model::sources::Sources;
@@ -39,6 +40,7 @@ pub(crate) fn perform(
 ) -> Result<Reply, Stop>
     requires running { IsTrue (is_running (job_at job contents.old.state.jobs)) }
     requires built { IsTrue (is_built request.now) }
+    requires other { switches request.now ≡ false }
     requires answered { AreAnswered sources.now }
     requires defaults { HaveDefaults contents.old.state.files }
     requires stand { StandAsMade (changes_in (job_of job (memory_of contents.old.state)).cycle) contents.old.state.members }
@@ -58,7 +60,7 @@ pub(crate) fn perform(
         Request::ReorganizeMember(args) => reorganize_member(contents, job, timestamp, args),
         Request::StartJournaling(args) => start_journaling(contents, job, timestamp, args),
         Request::EndJournaling(args) => end_journaling(contents, job, timestamp, args),
-        Request::ChangeJournal => change_journal(contents, job, timestamp),
+        Request::ChangeJournal => unreachable!(),
         Request::DeleteReceiver(args) => delete_receiver(contents, job, args),
         Request::DisplayJournal(args) => display_journal(contents, job, args),
         Request::ApplyChanges(args) => apply_changes(contents, job, timestamp, args),

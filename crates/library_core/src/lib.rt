@@ -1,7 +1,10 @@
 //! The library over a store, and the one call that answers a request. Begin with `library.rt`.
 #![tactic(auto)]
 
+mod answering;
 mod dispatch;
+mod kinds;
+mod laws;
 pub mod library;
 
 pub use library_model::calls::Call;

@@ -1,60 +1,87 @@
-//! The library over a store, and the one call on it. What each request does is asked for in `dispatch.rt`.
-ghost use Rattle.std.specs.Prelude.{◌≡◌, ℕ, false, ◌+◌, ◌<◌, ◌∷◌, [], ◌++◌, length, IsTrue, IfOk, OnOk, OnErr};
+//! The library over a store, and the one call on it. What each request does is asked for in `dispatch.rt`; how its entries come to the journal on
+//! the disk stands in `answering.rt`.
+ghost use Rattle.std.specs.Prelude.{◌≡◌, ◌≢◌, ◌⊎◌, ℕ, true, false, ◌+◌, ◌*◌, ◌<◌, ◌≤◌, ◌∷◌, [], ◌++◌, length, take, IsTrue, IfOk, OnOk, OnErr};
+ghost use Rattle.store_model.specs.Disk.{Areas, May, Leaves};
+ghost use Rattle.store_model.specs.Faults.{Rose};
+ghost use Rattle.journal_book.specs.Book.{HasMoreRoom};
+ghost use Rattle.journal_book.specs.Kept.{IsForcedOrFrom, SpellEntries};
 ghost use Rattle.answered_sources.specs.Answered.{AreAnswered};
 ghost use Rattle.built_requests.specs.Built.{is_built};
+ghost use Rattle.deposited_entries.specs.Deposits.{AreShort};
 ghost use Rattle.joint_state.specs.Sound.{IsSound};
-ghost use Rattle.library_steps.specs.State.{State, empty_library, job_at, new_job};
+ghost use Rattle.library_steps.specs.State.{State, job_at, new_job};
 ghost use Rattle.library_steps.specs.History.{is_running};
-ghost use Rattle.library_parts.specs.Answers.{reply_of};
 ghost use Rattle.library_parts.specs.Indexed.{ArePaths};
+ghost use Rattle.library_core.specs.Fronts.{IsAcknowledged, entries_behind};
+ghost use Rattle.library_core.specs.Journaled.{IsJournaled};
 ghost use Rattle.library_core.specs.Running.{runs_after};
-ghost use Rattle.library_core.specs.Stands.{Stands, IsReady, Goes};
+ghost use Rattle.library_core.specs.Stands.{Stands, IsReady, Goes, whole_from};
 
-use crate::dispatch::perform;
+use crate::answering::{answer, reserve_for};
+use crate::laws::journal_lasts;
 use field_types::names::Name;
+use kept_journal::KeptJournal;
 use library_model::replies::Reply;
 use library_model::requests::Request;
 use library_model::sources::Sources;
-use library_parts::{Contents, Stop};
-use sound_histories::each_call_leaves_a_sound_library;
-use std::alloc::{AllocError, Global};
+use library_parts::Contents;
+use std::alloc::AllocError;
 use std::marker::Model;
 use store_model::Store;
 
-/// A library. Contracts see its state, the store that it will keep its journal in, the access paths that it keeps, and whether
-/// a call has found the store at fault.
+/// A library whose journal stands on a disk. Contracts see the store, the journal's book, the library's state, the access paths that it
+/// keeps, and whether a call has found the store at fault.
 pub struct Library<S: Store> {
     store: S,
+    journal: KeptJournal,
     contents: Contents,
     failed: bool,
 }
 
 impl<S: Store> Model for Library<S> {
+    ghost use Rattle.std.specs.Prelude.{◌≡◌, false};
+    ghost use Rattle.library_core.specs.Journaled.{IsJournaled};
     ghost use Rattle.library_core.specs.Parts.{LibraryOver};
 
     ghost Value = { LibraryOver S };
 
-    ghost view = { λ l. record { store = l.store; state = l.contents.state; paths = l.contents.room.paths.paths; failed = l.failed } };
+    ghost view = { λ l. record { store = l.store; book = l.journal; state = l.contents.state; paths = l.contents.room.paths.paths; failed = l.failed } };
+
+    ghost invariant = { λ l. l.failed ≡ false → IsJournaled S.tells (S.disk l.store) l.journal l.contents.state };
 }
 
 impl<S: Store> Library<S> {
-    /// A library with nothing in it. The store is not called.
-    pub fn empty(alloc: Global, store: S) -> Library<S>
+    /// A library with this in it, whose journal is this one in the store. The store is not called.
+    pub fn over(store: S, journal: KeptJournal, contents: Contents) -> Library<S>
+        requires { IsJournaled S.tells (S.disk store) journal contents.state }
         ensures store { result.store ≡ store }
-        ensures stands { Stands result empty_library }
+        ensures book { result.book ≡ journal }
+        ensures stands { Stands result contents.state }
+        ensures left { S.tells → (areas : Areas) → May (S.disk result.store) areas → SpellEntries result.book.chain.first (take result.book.forced result.state.entries) areas }
     {
         Library {
             store,
-            contents: Contents::new(alloc),
+            journal,
+            contents,
             failed: false,
         }
     }
 
     /// Whether a call has found the store at fault; nothing but opening the library again is left then.
     pub fn failed(&self) -> bool
-        ensures { result ≡ self.now.failed }
+        ensures failed { result ≡ self.now.failed }
+        ensures journaled { result ≡ false → IsJournaled S.tells (S.disk self.now.store) self.now.book self.now.state }
+        ensures left { result ≡ false → S.tells → (areas : Areas) → May (S.disk self.now.store) areas → SpellEntries self.now.book.chain.first (take self.now.book.forced self.now.state.entries) areas }
+        ensures all { result ≡ false → self.now.book.forced + self.now.book.waiting ≡ length self.now.state.entries }
     {
         self.failed
+    }
+
+    /// What it has in memory.
+    pub fn contents(&self) -> &Contents
+        ensures { result.now.state ≡ self.now.state }
+    {
+        &self.contents
     }
 
     /// How many jobs have begun.
@@ -72,8 +99,12 @@ impl<S: Store> Library<S> {
         ensures unchanged { OnErr result (self.new.state ≡ self.old.state) }
         ensures store { self.new.store ≡ self.old.store }
         ensures failed { self.new.failed ≡ self.old.failed }
+        ensures forced { self.new.book.forced ≡ self.old.book.forced }
+        ensures waiting { self.new.book.waiting ≡ self.old.book.waiting }
+        ensures receiver { self.new.book.chain.first ≡ self.old.book.chain.first }
     {
-        self.contents.begin_job(*name)
+        journal_lasts();
+        begin(&mut self.contents, &mut self.journal, *name)
     }
 
     /// Hands the store back.
@@ -82,6 +113,7 @@ impl<S: Store> Library<S> {
     {
         let Library {
             store,
+            journal: _,
             contents: _,
             failed: _,
         } = self;
@@ -89,7 +121,20 @@ impl<S: Store> Library<S> {
     }
 }
 
-/// Answers one request of a job, at a time.
+/// Begins a job, with a place for the block by which its end is forced.
+fn begin(contents: &mut Contents, journal: &mut KeptJournal, name: Name) -> Result<u32, AllocError>
+    requires { length contents.old.state.jobs < 4294967295 }
+    ensures number { IfOk result (λ n. n ≡ length contents.old.state.jobs + 1) }
+    ensures begun { OnOk result (contents.new.state ≡ record contents.old.state { jobs = contents.old.state.jobs ++ new_job name ∷ [] }) }
+    ensures unchanged { OnErr result (contents.new.state ≡ contents.old.state) }
+    ensures same { HasMoreRoom journal.old journal.new }
+    ensures room { OnOk result (2 * length contents.old.state.jobs + 1 ≤ journal.new.chain.room) }
+{
+    reserve_for(journal, contents.jobs_begun())?;
+    contents.begin_job(name)
+}
+
+/// Answers one request of a job, at a time. After a store fault the library has failed: open it again.
 pub fn call<S: Store>(
     library: &mut Library<S>,
     job: u32,
@@ -100,28 +145,36 @@ pub fn call<S: Store>(
     requires ready { IsReady job library.old }
     requires built { IsTrue (is_built request.now) }
     requires answered { AreAnswered sources.now }
+    requires short { AreShort sources.now }
     ensures goes { (s : State) → Stands library.old s → Goes sources.now library.new s (record { job = job; timestamp = timestamp; request = request.now; reply = result }) }
     ensures running { (other : ℕ) → is_running (job_at other library.new.state.jobs) ≡ runs_after job request.now library.old.state.jobs other }
     ensures kept { IsSound library.new.state }
     ensures paths { ArePaths library.new.state.files library.new.state.members library.new.paths }
-    ensures store { library.new.store ≡ library.old.store }
-    ensures alive { library.new.failed ≡ false }
+    // A store fault alone ends it.
+    ensures alive { result ≢ Reply.StoreFault → library.new.failed ≡ false }
+    ensures cause { library.new.failed ≡ true → Rose (S.disk library.old.store).faults (S.disk library.new.store).faults }
+    ensures faults { (S.disk library.old.store).faults ≤ (S.disk library.new.store).faults }
+    // What a stop leaves within the call, and behind it.
+    ensures moments { S.tells → Leaves (S.disk library.old.store) (S.disk library.new.store) (IsForcedOrFrom library.old.book.chain.first library.old.book.forced (whole_from request.now library.old.state.entries (entries_behind sources.now library.old.state (record { job = job; timestamp = timestamp; request = request.now; reply = result }))) (entries_behind sources.now library.old.state (record { job = job; timestamp = timestamp; request = request.now; reply = result }))) }
+    ensures still { library.new.failed ≡ false → library.new.state.entries ≡ library.old.state.entries → S.tells → Leaves (S.disk library.old.store) (S.disk library.new.store) (IsForcedOrFrom library.old.book.chain.first library.old.book.forced (length library.old.state.entries) library.old.state.entries) }
+    ensures left { library.new.failed ≡ false → S.tells → (areas : Areas) → May (S.disk library.new.store) areas → SpellEntries library.new.book.chain.first (take library.new.book.forced library.new.state.entries) areas }
+    ensures acknowledged { IsAcknowledged sources.now library.old.state (record { job = job; timestamp = timestamp; request = request.now; reply = result }) → library.new.book.waiting ≡ 0 }
+    ensures least { library.new.failed ≡ false → library.old.book.forced ≤ library.new.book.forced }
+    ensures whole { library.new.failed ≡ false → (library.new.book.forced ≡ library.old.book.forced) ⊎ (library.new.book.forced ≡ length library.new.state.entries) }
+    ensures all { library.new.failed ≡ false → library.new.book.forced + library.new.book.waiting ≡ length library.new.state.entries }
+    ensures receiver { library.new.book.chain.first ≡ library.old.book.chain.first }
 {
-    // A sound library stays sound, and each change of an open commit cycle stands in it as it was made.
-    each_call_leaves_a_sound_library();
-    let done = perform(&mut library.contents, job, timestamp, sources, request);
+    let (reply, failed) = answer(
+        &mut library.contents,
+        &mut library.journal,
+        &mut library.store,
+        job,
+        timestamp,
+        sources,
+        request,
+    );
+    library.failed = failed;
     // The access paths follow the members.
     let _jobs = library.contents.jobs_begun();
-    reply_of(done)
-}
-
-/// What is answered to the job.
-fn reply_of(done: Result<Reply, Stop>) -> Reply
-    ensures { result ≡ reply_of done }
-{
-    match done {
-        Ok(reply) => reply,
-        Err(Stop::NoMemory) => Reply::NoMemory,
-        Err(Stop::Refused(reply)) => reply,
-    }
+    reply
 }

@@ -54,3 +54,4 @@ pub mod ManyPaths
 pub mod UniqueOver
 pub mod FreePaths
 pub mod NewRecords
+pub mod FilledLemmas

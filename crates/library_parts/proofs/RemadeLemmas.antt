@@ -70,7 +70,7 @@ module _ (s : State) (member : ℕ) (orders : List (Named OpenOrder)) (moves : L
         (laws.view_kept (bases_in s.files) spec later (view-of s.files name file spec indexed.views here is).keyed
         (bases-have s.files later lawful.bases remade-records name file spec here is))
 
-    remade-can : CanBeRebuilt member (with_member member after s.members) kept.paths
+    pub remade-can : CanBeRebuilt member (with_member member after s.members) kept.paths
     remade-can k d low over = each-kept s.files (λ (path : PathSpec). CanBeKept path later) remade-physical remade-logical distinct s.members kept.paths shared indexed.paths k d low
 
   pub cleared-can : CanBeRebuilt member (with_member member (cleared (member_of member s.members)) s.members) kept.paths

@@ -15,3 +15,4 @@ pub mod Finds
 pub mod Locks
 pub mod Rooms
 pub mod Files
+pub mod Filled

@@ -33,6 +33,7 @@ pub struct OpenFound<'a> {
 }
 
 /// A member that a request names, and its file.
+#[derive(Drop)]
 pub struct MemberFound<'a> {
     pub file: &'a File,
     pub status: MemberStatus,

@@ -222,7 +222,7 @@ impl Contents {
         self.member_bytes = self.member_bytes - before + after;
     }
 
-    fn weight(&self, member: u32) -> u64
+    pub(crate) fn weight(&self, member: u32) -> u64
         requires { IsSome (member_at member self.now.state.members) }
         ensures value { result ≡ weight (member_of member self.now.state.members) }
         ensures few { result ≤ library_bytes self.now.state.members }

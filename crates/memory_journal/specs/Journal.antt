@@ -34,6 +34,10 @@ pub record Held : Type 0 where
 abbrev pub empty_journal : Journal
 empty_journal = record { gone = 0; entries = []; receivers = record { first = 1; attached = 1 }; checkpoint = 0 }
 
+-- these entries, of which none is gone, with this receiver attached
+abbrev pub restarted_journal : List Entry → (attached : ℕ) → Journal
+restarted_journal entries attached = record { gone = 0; entries = entries; receivers = record { first = 1; attached = attached }; checkpoint = 0 }
+
 -- the number of the last entry
 abbrev pub last_entry : Journal → ℕ
 last_entry j = j.gone + length j.entries

@@ -4,7 +4,7 @@ ghost use Rattle.library_steps.specs.declared.limits.TheConstants.{LAST_RECEIVER
 ghost use Rattle.library_steps.specs.Receivers.{last_in};
 ghost use Rattle.journal_model.specs.Journal.{AreNumbered};
 ghost use Rattle.memory_journal.specs.declared.journal.TheConstants.{LAST_NUMBER};
-ghost use Rattle.memory_journal.specs.Journal.{empty_journal, last_entry, read, fault_reply, deposited, attached, given_up, dropped};
+ghost use Rattle.memory_journal.specs.Journal.{empty_journal, restarted_journal, last_entry, read, fault_reply, deposited, attached, given_up, dropped};
 
 use crate::ends::next_receiver;
 use crate::faults::JournalFault;
@@ -60,6 +60,21 @@ impl MemoryJournal {
             entries: Vec::new(alloc),
             first: 1,
             attached: 1,
+            checkpoint: 0,
+        }
+    }
+
+    /// These entries, from the first one on. No receiver is gone, and this one is attached.
+    pub fn restarted(entries: Vec<Entry>, attached: u32) -> MemoryJournal
+        requires numbered { AreNumbered 1 entries.items }
+        requires few { length entries.items ≤ LAST_NUMBER }
+        ensures { result.journal ≡ restarted_journal entries.items attached }
+    {
+        MemoryJournal {
+            gone: 0,
+            entries,
+            first: 1,
+            attached,
             checkpoint: 0,
         }
     }
@@ -124,6 +139,13 @@ impl MemoryJournal {
         let from = (first - kept) as usize;
         let count = (last + 1 - first) as usize;
         Ok(&self.entries.as_slice()[from..from + count])
+    }
+
+    /// All entries that are kept.
+    pub fn all_entries(&self) -> &[Entry]
+        ensures { result.now ≡ self.now.journal.entries }
+    {
+        self.entries.as_slice()
     }
 
     /// The number of the first receiver that is kept.

@@ -4,6 +4,7 @@ pub mod Drops
 pub mod Firsts
 pub mod Kept
 pub mod LinkLemmas
+pub mod Others
 pub mod ReadingLaws
 pub mod Switches
 pub mod Walks

@@ -62,6 +62,10 @@ module _ (first room : ℕ) (logs : List LogState) (log : LogState) (kept : Kept
   pub chained_left : (c : Areas) → May disk c → AreChained first kept c
   chained_left c may = chained_same c (logs_left first logs kept.earlier disk c holds.leads.logs_of may) (holds.leads.log_of.settled.durable c may)
 
+  -- where no call is made
+  pub none_chained : Leaves disk disk (λ c. AreChained first kept c)
+  none_chained = leaves_stays disk disk (λ c. AreChained first kept c) (stays_here disk) chained_left
+
   module _ (area : ℕ) (is : area ≡ area_of (first + length logs + 1)) where
     pub next_apart : (m : ℕ) → m < first + length kept.earlier → area_of m ≢ area
     next_apart m lt same = omega (arith, same, lt, is, count first room logs log kept disk holds)

@@ -1,3 +1,4 @@
 pub mod Chain
 pub mod Links
+pub mod Others
 pub mod Receivers

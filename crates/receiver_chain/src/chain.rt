@@ -9,6 +9,7 @@ ghost use Rattle.receiver_chain.specs.declared.numbers.TheConstants.{FIRST_RECEI
 ghost use Rattle.receiver_chain.specs.Links.{IsNoLink};
 ghost use Rattle.receiver_chain.specs.Receivers.{Kept, deposited};
 ghost use Rattle.receiver_chain.specs.Chain.{Holds, IsHeld, IsWithOrWithout, attached_of};
+ghost use Rattle.receiver_chain.specs.Others.{LeavesRoots};
 
 use gated_log::{FRAME, Log, MAX_BLOCK, StoreFault};
 use std::alloc::AllocError;
@@ -94,6 +95,7 @@ impl Chain {
         ensures deposited { OnOk result (S.tells → (kept : Kept) (block : List ℕ) → framed.now ≡ frame block → Holds self.old kept (S.disk store.old) → Holds self.new (deposited block kept) (S.disk store.new)) }
         ensures any_moment { S.tells → (kept : Kept) (block : List ℕ) → framed.now ≡ frame block → Holds self.old kept (S.disk store.old) → Leaves (S.disk store.old) (S.disk store.new) (IsWithOrWithout self.old.first kept block) }
         ensures apart { Does self.old.attached.area Anything (S.disk store.old) (S.disk store.new) }
+        ensures roots { LeavesRoots (S.disk store.old) (S.disk store.new) }
         ensures cause { IsErr result → Rose (S.disk store.old).faults (S.disk store.new).faults }
         ensures same_first { self.new.first ≡ self.old.first }
         ensures same_earlier { self.new.earlier ≡ self.old.earlier }

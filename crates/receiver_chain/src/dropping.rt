@@ -4,6 +4,7 @@ ghost use Rattle.store_model.specs.Disk.{Cut, Does, Leaves};
 ghost use Rattle.store_model.specs.Faults.{Rose};
 ghost use Rattle.receiver_chain.specs.Receivers.{AreChained, IsCutOf, Kept, area_of, dropped};
 ghost use Rattle.receiver_chain.specs.Chain.{Holds, attached_of};
+ghost use Rattle.receiver_chain.specs.Others.{LeavesRoots};
 
 use crate::chain::Chain;
 use crate::numbers::area_of;
@@ -21,6 +22,7 @@ impl Chain {
         ensures others { (area : ℕ) → ((number : ℕ) → self.old.first ≤ number → number ≤ receiver → area ≢ area_of number) → (S.disk store.new).seen area ≡ (S.disk store.old).seen area }
         ensures holds { S.tells → (kept : Kept) → Holds self.old kept (S.disk store.old) → Holds self.new (dropped (self.new.first - self.old.first) kept) (S.disk store.new) }
         ensures any_moment { Leaves (S.disk store.old) (S.disk store.new) (IsCutOf (S.disk store.old) self.old.first (receiver + 1)) }
+        ensures roots { LeavesRoots (S.disk store.old) (S.disk store.new) }
         ensures kept_stay { S.tells → (kept : Kept) → Holds self.old kept (S.disk store.old) → Leaves (S.disk store.old) (S.disk store.new) (AreChained (receiver + 1) (dropped (receiver + 1 - self.old.first) kept)) }
         ensures cause { IsErr result → Rose (S.disk store.old).faults (S.disk store.new).faults }
         ensures same_number { attached_of self.new ≡ attached_of self.old }

@@ -3,8 +3,9 @@ ghost use Rattle.std.specs.Prelude.{◌≡◌, ◌+◌, ◌<◌, ◌≤◌, ℕ,
 ghost use Rattle.store_model.specs.Disk.{Does, Leaves};
 ghost use Rattle.store_model.specs.Faults.{Rose};
 ghost use Rattle.gated_log.specs.Log.{Settled, Anything};
-ghost use Rattle.receiver_chain.specs.Receivers.{Kept, area_of, deposited, switched};
+ghost use Rattle.receiver_chain.specs.Receivers.{AreChained, Kept, area_of, deposited, switched};
 ghost use Rattle.receiver_chain.specs.Chain.{Holds, IsHeld, IsSwitch, IsSwitching, attached_of, firsts, lengths_in, logs_of};
+ghost use Rattle.receiver_chain.specs.Others.{LeavesRoots};
 
 use crate::chain::Chain;
 use crate::fault::ChainFault;
@@ -35,8 +36,11 @@ impl Chain {
         ensures attached { IfOk result (λ receiver. receiver ≡ attached_of self.new) }
         ensures switched { OnOk result (S.tells → (kept : Kept) (blocks : IsSwitch (attached_of self.old) nr.now pr.now) → Holds self.old kept (S.disk store.old) → Holds self.new (deposited blocks.beginning (switched blocks.ending (blocks.before + 1) kept)) (S.disk store.new)) }
         ensures any_moment { S.tells → (kept : Kept) (blocks : IsSwitch (attached_of self.old) nr.now pr.now) → Holds self.old kept (S.disk store.old) → Leaves (S.disk store.old) (S.disk store.new) (IsSwitching self.old.first kept blocks.before blocks.ending blocks.beginning) }
+        ensures roots { LeavesRoots (S.disk store.old) (S.disk store.new) }
         ensures no_memory { IsErrOf result ChainFault.NoMemory → S.tells → (kept : Kept) → Holds self.old kept (S.disk store.old) → Holds self.new kept (S.disk store.new) }
+        ensures unswitched { IsErrOf result ChainFault.NoMemory → S.tells → (kept : Kept) → Holds self.old kept (S.disk store.old) → Leaves (S.disk store.old) (S.disk store.new) (AreChained self.old.first kept) }
         ensures cause { IsErrOf result ChainFault.StoreFault → Rose (S.disk store.old).faults (S.disk store.new).faults }
+        ensures faults { (S.disk store.old).faults ≤ (S.disk store.new).faults }
         ensures firsts { OnOk result ((blocks : IsSwitch (attached_of self.old) nr.now pr.now) → firsts (logs_of self.new) ≡ firsts (logs_of self.old) ++ (blocks.before + 1) ∷ []) }
         ensures lengths { OnOk result ((blocks : IsSwitch (attached_of self.old) nr.now pr.now) → lengths_in (logs_of self.new) ≡ lengths_in self.old.earlier ++ (self.old.attached.lengths ++ length blocks.ending ∷ []) ∷ (length blocks.beginning ∷ []) ∷ []) }
         ensures same_first { self.new.first ≡ self.old.first }

@@ -1,7 +1,9 @@
 -- What is held of a member beside its number, and what does an act make of it?
 -- (Journal Management, "Recovery operations using journaling".)
 use Rattle.std.specs.Prelude.{ℕ, ◌<◌, ◌==◌, if◌then◌else◌, List, [], map, Option, None}
+use Rattle.std.specs.Borrow.{Bor}
 use Rattle.std.specs.List.{AllByRecursion}
+use Rattle.std.specs.Map.Iter.{deref_pair}
 use Rattle.entry_codec.specs.declared.kinds.Images.{Images}
 use Rattle.member_slots.specs.declared.slot.Slot.{Slot}
 use Rattle.journal_model.specs.Acts.{Act}
@@ -25,6 +27,10 @@ body_by a sequence b = record b { images = images_by a b.images; last_break = br
 
 abbrev pub held : ℕ × Body → HeldMember
 held entry = record { number = entry.0; file = entry.1.file; name = entry.1.name; images = entry.1.images; last_break = entry.1.last_break; slots = entry.1.slots }
+
+-- the same of what is lent
+abbrev pub member_shown : Bor ℕ × Bor Body → HeldMember
+member_shown shown = held (deref_pair shown)
 
 -- the member of that number by the act
 abbrev pub with_act : ℕ → Act → (sequence : ℕ) → List HeldMember → List HeldMember

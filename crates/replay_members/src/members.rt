@@ -1,5 +1,5 @@
 //! The members as the journal leaves them, in order of creation, found by their numbers.
-ghost use Rattle.std.specs.Prelude.{◌≡◌, ◌+◌, ◌≤◌, [], ◌∷◌, ◌++◌, map, not, None, Some, false, true, OnOk};
+ghost use Rattle.std.specs.Prelude.{◌≡◌, ◌+◌, ◌≤◌, [], ◌∷◌, ◌++◌, length, map, not, None, Some, false, true, slice_get, OnOk};
 ghost use Rattle.std.specs.List.{filter, find, list_any};
 ghost use Rattle.std.specs.Option.{is_some, option_copied, option_map, option_map_or};
 ghost use Rattle.std.specs.Str.{bytes_eq};
@@ -7,7 +7,7 @@ ghost use Rattle.journal_model.specs.declared.limits.TheConstants.{LAST_MEMBER};
 ghost use Rattle.journal_model.specs.Catalogue.{has_number, is_in_file};
 ghost use Rattle.journal_replay.specs.Standing.{catalog_member, slots_at, new_member};
 ghost use Rattle.journal_replay.specs.Left.{is_held};
-ghost use Rattle.replay_members.specs.Bodies.{held, with_act};
+ghost use Rattle.replay_members.specs.Bodies.{held, member_shown, with_act};
 ghost use Rattle.journal_replay.specs.MemberActs.{act_of};
 ghost use Rattle.journal_replay.specs.Tests.{is_touched};
 
@@ -56,6 +56,20 @@ impl Members {
         ensures { result ≡ self.now.next }
     {
         self.next
+    }
+
+    /// How many members there are.
+    pub fn len(&self) -> usize
+        ensures { result ≡ length self.now.members }
+    {
+        self.members.len()
+    }
+
+    /// The member at a place in the order of creation, counted from 0, with its number.
+    pub fn at(&self, place: usize) -> Option<(&u32, &Member)>
+        ensures { slice_get self.now.members place ≡ option_map member_shown result }
+    {
+        self.members.get_index(place)
     }
 
     /// The member of that number.

@@ -49,7 +49,7 @@ use Rattle.joint_state.specs.Limits.{AreWithin, IsWithin}
 use Rattle.joint_state.specs.Sound.{IsSound}
 use Rattle.joint_state.specs.Told.{IsRecordOf, IsTold, MayHavePlace, NamesPlace}
 use Rattle.library_kept.proofs.FieldLemmas.{length-record}
-use Rattle.restart_model.specs.Libraries.{files_left, journal_with, library_restarted, member_left, record_length_in}
+use Rattle.restart_model.specs.Libraries.{files_left, journal_with, library_restarted, member_left, record_length_in, restart_job}
 use Rattle.restart_model.specs.Sources.{described_files, descriptions, spec_named}
 use Rattle.journaled_entries.specs.Deposited.{AreDeposited, AreJournaled}
 use Rattle.restart_laws.specs.Given.{IsLeftAs}
@@ -266,10 +266,10 @@ module _ (entries : List Entry) (attached moment : ℕ) (can : CanReplayJournal 
   j = journal_with entries
 
   abbrev r : Journal
-  r = restarted None moment (journal_with entries)
+  r = restarted restart_job moment (journal_with entries)
 
   abbrev files : Named FileState
-  files = files_left (λ _. 0) (restarted None moment (journal_with entries))
+  files = files_left (λ _. 0) (restarted restart_job moment (journal_with entries))
 
   abbrev s : State
   s = library_restarted (λ _. 0) attached moment (journal_with entries)
@@ -281,11 +281,11 @@ module _ (entries : List Entry) (attached moment : ℕ) (can : CanReplayJournal 
   at-first = stands-all entries empty_catalogue (λ member. start_of (journal_with entries) member) [] None beginning can.enters can.records can.replays
 
   stands : Stands (catalogue_of r) (λ member. state_of j member) entries
-  stands = subst (λ (c : Catalogue). Stands c (λ member. state_of (journal_with entries) member) entries) (sym (catalogue-restarted None moment j)) at-first
+  stands = subst (λ (c : Catalogue). Stands c (λ member. state_of (journal_with entries) member) entries) (sym (catalogue-restarted restart_job moment j)) at-first
 
   slots-held : (m : CatalogMember) → Among m (catalogue_of r).members → AllByRecursion (HoldsValues (fields_at (catalogue_of r) m.file)) (state_of r m.number).slots
   slots-held m among =
-      subst (λ (slots : List Slot). AllByRecursion (HoldsValues (fields_at (catalogue_of r) m.file)) slots) (sym (restarted-slots None moment j can.replays m.number))
+      subst (λ (slots : List Slot). AllByRecursion (HoldsValues (fields_at (catalogue_of r) m.file)) slots) (sym (restarted-slots restart_job moment j can.replays m.number))
       (undone-holds (HoldsValues (fields_at (catalogue_of r) m.file)) tt (state_of j m.number) (stands.holds m among))
 
   members-there : (name : List ℕ) (file : FileState) (number : ℕ) → Owns files name file number → IsThere (fields_of file) (member_at number s.members)
@@ -301,16 +301,16 @@ module _ (entries : List Entry) (attached moment : ℕ) (can : CanReplayJournal 
   member-limits : (m : CatalogMember) → Among m (catalogue_of r).members
       → IsMember (record { record_length = record_length descriptions (catalogue_of r) m; slots = (state_of j m.number).slots })
   member-limits m among =
-      subst (λ (c : Catalogue). IsMember (record { record_length = record_length descriptions c m; slots = (state_of j m.number).slots })) (sym (catalogue-restarted None moment j))
+      subst (λ (c : Catalogue). IsMember (record { record_length = record_length descriptions c m; slots = (state_of j m.number).slots })) (sym (catalogue-restarted restart_job moment j))
       (can.limits entries [] m (sym (append-none entries))
-      (numbered-among (catalogue_of j).members m at-first.is.numbers (subst (λ (c : Catalogue). Among m c.members) (catalogue-restarted None moment j) among)))
+      (numbered-among (catalogue_of j).members m at-first.is.numbers (subst (λ (c : Catalogue). Among m c.members) (catalogue-restarted restart_job moment j) among)))
 
   member-within : (m : CatalogMember) → Among m (catalogue_of r).members → IsWithin (member_left files r m).item
   member-within m among =
       let limits = member-limits m among in
       let its = own-file (catalogue_of r) stands.is stands.plain m among in
       let long : length (state_of r m.number).slots ≡ length (state_of j m.number).slots =
-      ap (λ (slots : List Slot). length slots) (restarted-slots None moment j can.replays m.number)
+      ap (λ (slots : List Slot). length slots) (restarted-slots restart_job moment j can.replays m.number)
       ∙ undone-long (state_of j m.number) (sound-replay (start_of j m.number) (acts_after j m.number) (sound-start _ _) (can.replays m.number)).within in
       let bytes : record_length_in (named m.file files) ≡ record_length descriptions (catalogue_of r) m =
       long-left (λ _. 0) r m.file
@@ -353,10 +353,10 @@ module _ (entries : List Entry) (attached moment : ℕ) (can : CanReplayJournal 
 
   rooms : AllByRecursion (λ (e : Entry). IsTrue (is_placed e)) entries → AllByRecursion (EntryHasRoom (catalogue_of r)) s.entries
   rooms placed =
-      each-append (EntryHasRoom (catalogue_of r)) entries (restart_entries None moment j)
-      (subst (λ (c : Catalogue). AllByRecursion (EntryHasRoom c) entries) (sym (catalogue-restarted None moment j))
+      each-append (EntryHasRoom (catalogue_of r)) entries (restart_entries restart_job moment j)
+      (subst (λ (c : Catalogue). AllByRecursion (EntryHasRoom c) entries) (sym (catalogue-restarted restart_job moment j))
       (rooms-all entries empty_catalogue (λ member. start_of (journal_with entries) member) [] None beginning tt can.enters can.records can.replays can.pairs placed can.limits))
-      (restart-has-room (catalogue_of r) None moment j changes-room)
+      (restart-has-room (catalogue_of r) restart_job moment j changes-room)
 
   names-made : (e : Entry) → EntryHasRoom (catalogue_of r) e → IfSome e.member (λ number. number < (catalogue_of r).next_member)
   names-made e room = by e.member refl
@@ -367,9 +367,9 @@ module _ (entries : List Entry) (attached moment : ℕ) (can : CanReplayJournal 
 
   images-told : AllByRecursion (EntryTold (catalogue_of r)) s.entries
   images-told =
-      each-append (EntryTold (catalogue_of r)) entries (restart_entries None moment j)
+      each-append (EntryTold (catalogue_of r)) entries (restart_entries restart_job moment j)
       (each-weaker (IsToldIn (catalogue_of r)) (EntryTold (catalogue_of r)) (λ e it. it.told) entries stands.told)
-      (entries-told (catalogue_of r) None moment j sides)
+      (entries-told (catalogue_of r) restart_job moment j sides)
 
   one-is-told : (e : Entry) → EntryTold (catalogue_of r) e → EntryHasRoom (catalogue_of r) e → IsTold files e
   one-is-told e told room name file number owns names =
@@ -413,15 +413,15 @@ module _ (entries : List Entry) (attached moment : ℕ) (can : CanReplayJournal 
   silent-now journaled member at there none =
       let its = there-found (λ _. 0) r files (catalogue_of r).members member there in
       let found = found-among (λ (o : CatalogMember). o.number == member) (catalogue_of r).members its.0 its.1 in
-      let among = subst (λ (c : Catalogue). Among its.0 c.members) (catalogue-restarted None moment j) found.0 in
+      let among = subst (λ (c : Catalogue). Among its.0 c.members) (catalogue-restarted restart_job moment j) found.0 in
       let quiet = silent-all entries at empty_catalogue (λ n. None) (λ n. start_of (journal_with entries) n) None empty-is tt
       (record { silent = λ m nowhere images. absurd nowhere; fresh = λ n above. record { known = refl; undos = refl } }) can.enters journaled can.replays in
       let nothing = quiet.silent its.0 among (images-none member its.0 its.1 none) in
       subst (λ (n : ℕ). known_after at None (acts n None s.entries) ≡ None) (eqb-true its.0.number member found.1)
-      (ap (known_after at None) (acts-append its.0.number None entries (restart_entries None moment j))
-      ∙ known_after-append at None (acts its.0.number None entries) (acts its.0.number (entry_before None entries) (restart_entries None moment j))
-      ∙ ap (λ (k : Option Slot). known_after at k (acts its.0.number (entry_before None entries) (restart_entries None moment j))) nothing.known
-      ∙ restart-known its.0.number None moment at j (entry_before None entries) None (sym (undos-are its.0.number) ∙ nothing.undos))
+      (ap (known_after at None) (acts-append its.0.number None entries (restart_entries restart_job moment j))
+      ∙ known_after-append at None (acts its.0.number None entries) (acts its.0.number (entry_before None entries) (restart_entries restart_job moment j))
+      ∙ ap (λ (k : Option Slot). known_after at k (acts its.0.number (entry_before None entries) (restart_entries restart_job moment j))) nothing.known
+      ∙ restart-known its.0.number restart_job moment at j (entry_before None entries) None (sym (undos-are its.0.number) ∙ nothing.undos))
 
   pub restarted-sound : AreDeposited entries → library_bytes s.members ≤ MOST_LIBRARY_BYTES → IsSound s
   restarted-sound deposited few = record {
@@ -452,7 +452,7 @@ module _ (entries : List Entry) (attached moment : ℕ) (can : CanReplayJournal 
       };
     };
     agreed = record {
-      chained = λ member at. IsChained-replayed at (acts_after r member) (start_of r member) None tt (restarted-replays None moment j can.replays member);
+      chained = λ member at. IsChained-replayed at (acts_after r member) (start_of r member) None tt (restarted-replays restart_job moment j can.replays member);
       told = λ member at there. record { so = so-now member at there; silent = silent-now deposited.journaled member at there };
       committed = tt;
     };

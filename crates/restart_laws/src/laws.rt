@@ -26,7 +26,7 @@ ghost use Rattle.restart_laws.specs.Given.{IsLeftAs, IsSameOver};
 ghost use Rattle.joint_state.specs.Limits.{AreFormats};
 ghost use Rattle.joint_state.specs.Views.{AreMapped, HaveDefaults};
 ghost use Rattle.restart_model.specs.Sources.{descriptions};
-ghost use Rattle.restart_model.specs.Libraries.{journal_with, library_restarted};
+ghost use Rattle.restart_model.specs.Libraries.{journal_with, library_restarted, restart_job};
 
 /// The files and members that a restart finds fit each other, where the journal can be replayed: no two files have one name, no two members one number,
 /// each file's fields lie one behind the other and may hold their default values, and logical files stand over physical files that are there.
@@ -54,8 +54,8 @@ pub fn restarted_files_are_sound()
 pub fn physical_files_are_left()
     ensures { (entries : List Entry) (attached moment : ℕ) → CanReplayJournal descriptions (journal_with entries)
         → AllByRecursion (λ (file : CatalogFile). file.kind ≡ Physical
-        → IsLeftAs (catalogue_of (restarted None moment (journal_with entries))).files (library_restarted (λ _. 0) attached moment (journal_with entries)).files file)
-        (catalogue_of (restarted None moment (journal_with entries))).files }
+        → IsLeftAs (catalogue_of (restarted restart_job moment (journal_with entries))).files (library_restarted (λ _. 0) attached moment (journal_with entries)).files file)
+        (catalogue_of (restarted restart_job moment (journal_with entries))).files }
 {}
 
 /// What a logical file's source describes depends on the physical files alone that its formats name.

@@ -1,7 +1,7 @@
 -- Which library does a journal leave, once a restart has brought it to its end? (Journal Management, "Recovery operations using journaling"; Commitment
 -- Control, "Commitment control during abnormal job end and restart".) No job has begun, nothing is locked, and no commit cycle is open. A member that
 -- isn't journaled stands as its last journaled moment left it, so nothing has changed it since.
-use Rattle.std.specs.Prelude.{ℕ, ◌-◌, false, Option, Some, None, List, [], length, map, filter}
+use Rattle.std.specs.Prelude.{ℕ, ◌-◌, false, Option, Some, None, List, [], length, map, filter, codes}
 use Rattle.entry_codec.specs.declared.entries.Entry.{Entry}
 use Rattle.entry_codec.specs.declared.kinds.Images.{Images}
 use Rattle.member_slots.specs.declared.slot.Slot.{Slot}
@@ -68,9 +68,13 @@ library_left breaks attached j = record {
   jobs = [];
 }
 
--- the library after a restart at this time, without a job's name on what it deposits
+-- the job's name on what a restart deposits
+abbrev pub restart_job : Option (List ℕ)
+restart_job = Some (codes "RESTART")
+
+-- the library after a restart at this time
 abbrev pub library_restarted : (breaks : ℕ → ℕ) → (attached moment : ℕ) → Journal → State
-library_restarted breaks attached moment j = library_left breaks attached (restarted None moment j)
+library_restarted breaks attached moment j = library_left breaks attached (restarted restart_job moment j)
 
 -- ---- a journal from the beginning
 

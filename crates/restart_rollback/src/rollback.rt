@@ -5,10 +5,12 @@ ghost use Rattle.store_model.specs.Faults.{Rose};
 ghost use Rattle.entry_codec.specs.declared.entries.Entry.{Entry};
 ghost use Rattle.journal_model.specs.Rollback.{numbered_from};
 ghost use Rattle.journal_limits.specs.Lengths.{KeepsLengths};
+ghost use Rattle.receiver_chain.specs.Others.{LeavesRoots};
 ghost use Rattle.journal_book.specs.Book.{Holds};
 ghost use Rattle.journal_book.specs.Kept.{IsForcedOrFrom};
-ghost use Rattle.journal_opening.specs.Journals.{IsLeftBy};
-ghost use Rattle.restart_rollback.specs.Rollbacks.{rollback_entries, rolled_back};
+ghost use Rattle.journal_replay.specs.SoFar.{EndsWhole};
+ghost use Rattle.journal_opening.specs.Journals.{IsLeftBy, journal_with};
+ghost use Rattle.restart_rollback.specs.Rollbacks.{IsForcedOrReplayed, rollback_entries, rolled_back};
 
 use crate::fault::RestartFault;
 use entry_codec::{Draft, Entry};
@@ -39,7 +41,10 @@ pub fn roll_back<S: Store, D: Describe>(
     ensures closed { OnOk result (replay.new.cycles ≡ []) }
     ensures held { OnOk result (S.tells → Holds journal.new entries.new.items (S.disk store.new)) }
     ensures nothing_waits { OnOk result (journal.new.waiting ≡ 0) }
+    ensures receiver { journal.new.chain.first ≡ journal.old.chain.first }
     ensures moments { S.tells → Leaves (S.disk store.old) (S.disk store.new) (IsForcedOrFrom journal.old.chain.first journal.old.forced (length (rolled_back who.now.job who.now.moment entries.old.items)) (rolled_back who.now.job who.now.moment entries.old.items)) }
+    ensures replays { S.tells → EndsWhole (journal_with entries.old.items) → Leaves (S.disk store.old) (S.disk store.new) (IsForcedOrReplayed (D.rules by.now) journal.old.chain.first journal.old.forced (rolled_back who.now.job who.now.moment entries.old.items)) }
+    ensures roots { LeavesRoots (S.disk store.old) (S.disk store.new) }
     ensures cause { IsErrOf result RestartFault.StoreFault → Rose (S.disk store.old).faults (S.disk store.new).faults }
 {
     let more = prepare(alloc, by, entries, replay, who)?;
@@ -108,7 +113,9 @@ fn put<S: Store>(
     ensures put { OnOk result (entries.new.items ≡ entries.old.items ++ more.items) }
     ensures held { OnOk result (S.tells → Holds journal.new (entries.old.items ++ more.items) (S.disk store.new)) }
     ensures nothing_waits { OnOk result (journal.new.waiting ≡ 0) }
+    ensures receiver { journal.new.chain.first ≡ journal.old.chain.first }
     ensures moments { S.tells → Leaves (S.disk store.old) (S.disk store.new) (IsForcedOrFrom journal.old.chain.first journal.old.forced (length (entries.old.items ++ more.items)) (entries.old.items ++ more.items)) }
+    ensures roots { LeavesRoots (S.disk store.old) (S.disk store.new) }
     ensures cause { IsErrOf result RestartFault.StoreFault → Rose (S.disk store.old).faults (S.disk store.new).faults }
 {
     let mut more = more;

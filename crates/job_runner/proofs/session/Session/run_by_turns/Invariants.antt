@@ -6,4 +6,4 @@ use Rattle.job_runner.proofs.session.Session.run_by_turns.Given as goal
 abbrev pub invariant-loop-turn : goal.invariant-loop-turn
 invariant-loop-turn g l =
     let jobs = length l.fn.self.scripts.scripts in
-    HasBegun g.C.Clock.gives l.fn.self l.self (AreByTurns jobs l.turns l.fn.self.calls) (AreByTurns jobs (drop l.turn-index l.turns) l.self.calls)
+    HasBegun g.S.Store.tells g.S.Store.disk g.C.Clock.gives l.fn.self l.self (AreByTurns jobs l.turns l.fn.self.calls) (AreByTurns jobs (drop l.turn-index l.turns) l.self.calls)

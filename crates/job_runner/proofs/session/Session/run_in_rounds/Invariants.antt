@@ -7,7 +7,7 @@ use Rattle.job_runner.proofs.session.Session.run_in_rounds.Given as goal
 abbrev pub invariant-loop : goal.invariant-loop
 invariant-loop g l =
     let jobs = length l.fn.self.scripts.scripts in
-    HasBegun g.C.Clock.gives l.fn.self l.self (AreInRound jobs 0 l.fn.self.calls) (AreInRound jobs 0 l.self.calls)
+    HasBegun g.S.Store.tells g.S.Store.disk g.C.Clock.gives l.fn.self l.self (AreInRound jobs 0 l.fn.self.calls) (AreInRound jobs 0 l.self.calls)
 
 abbrev pub decreases-loop : goal.decreases-loop
 decreases-loop g l = all_remaining (length l.fn.self.scripts.scripts) l.self.calls

@@ -4,7 +4,7 @@ use Rattle.job_runner.specs.declared.session.Stepped.TheVariants as stepped
 use Rattle.job_runner.specs.Ended.{calls_of, ends_once, has_ended}
 use Rattle.job_runner.specs.Turns.{AreByTurns}
 use Rattle.job_runner.proofs.CallLemmas.{calls_of-append_other}
-use Rattle.job_runner.proofs.RunLemmas.{HasBegun-call, HasBegun-end, still-open}
+use Rattle.job_runner.proofs.RunLemmas.{HasBegun-none, HasBegun-call, HasBegun-end, still-open}
 use Rattle.job_runner.proofs.TurnLemmas.{AreByTurns-first}
 use Rattle.job_runner.proofs.session.Session.run_job.Goals as goal
 
@@ -24,7 +24,7 @@ loop-preserved g c =
     record {
       others = λ other differs. ap (calls_of other) called.2.calls ∙ apart other differs ∙ c.loop.invariant.others other differs;
       made =
-          HasBegun-call g.C.Clock.gives c.args.self.now c.loop.self c.step_job.new.self whole rest next called.0 c.loop.invariant.made called.2
+          HasBegun-call g.S.Store.tells g.S.Store.disk g.C.Clock.gives c.args.self.now c.loop.self c.step_job.new.self whole rest next called.0 c.loop.invariant.made called.2
           (λ more is. AreByTurns-first jobs c.args.job c.loop.self.calls called.0 more called.1 c.requires.within earlier goes (first more is));
     }
 
@@ -33,18 +33,24 @@ returns-in-Ended-clause-made g c =
     let jobs = length c.args.self.now.scripts.scripts in
     let whole = AreByTurns jobs [] c.args.self.now.calls in
     let rest = AreByTurns jobs [] c.loop.self.calls in
-    HasBegun-end g.C.Clock.gives c.args.self.now c.loop.self c.step_job.new.self whole rest c.loop.invariant.made (c.in-Ended.ensures.unchanged (λ e. cc)) tt
+    HasBegun-end g.S.Store.tells g.S.Store.disk g.C.Clock.gives c.args.self.now c.loop.self c.step_job.new.self whole rest c.loop.invariant.made (c.in-Ended.ensures.unchanged (λ e. cc)) tt
 
 pub returns-in-Stopped-clause-made : goal.returns-in-Stopped-clause-made
 returns-in-Stopped-clause-made g c =
     let jobs = length c.args.self.now.scripts.scripts in
     let whole = AreByTurns jobs [] c.args.self.now.calls in
     let rest = AreByTurns jobs [] c.loop.self.calls in
-    HasBegun-end g.C.Clock.gives c.args.self.now c.loop.self c.step_job.new.self whole rest c.loop.invariant.made (c.in-Stopped.ensures.unchanged (λ e. cc)) tt
+    HasBegun-end g.S.Store.tells g.S.Store.disk g.C.Clock.gives c.args.self.now c.loop.self c.step_job.new.self whole rest c.loop.invariant.made (c.in-Stopped.ensures.unchanged (λ e. cc)) tt
 
 pub returns-in-NoMemory-clause-made : goal.returns-in-NoMemory-clause-made
 returns-in-NoMemory-clause-made g c =
     let jobs = length c.args.self.now.scripts.scripts in
     let whole = AreByTurns jobs [] c.args.self.now.calls in
     let rest = AreByTurns jobs [] c.loop.self.calls in
-    HasBegun-end g.C.Clock.gives c.args.self.now c.loop.self c.step_job.new.self whole rest c.loop.invariant.made (c.in-NoMemory.ensures.unchanged (λ e. cc)) tt
+    HasBegun-end g.S.Store.tells g.S.Store.disk g.C.Clock.gives c.args.self.now c.loop.self c.step_job.new.self whole rest c.loop.invariant.made (c.in-NoMemory.ensures.unchanged (λ e. cc)) tt
+
+pub loop-init : goal.loop-init
+loop-init g c = record {
+  others = λ other differs. refl;
+  made = HasBegun-none g.S.Store.tells g.S.Store.disk g.C.Clock.gives c.args.self.now (AreByTurns (length c.args.self.now.scripts.scripts) [] c.args.self.now.calls);
+}

@@ -7,5 +7,5 @@ use Rattle.job_runner.proofs.session.Session.run_to_ends.Given as goal
 abbrev pub invariant-loop-job : goal.invariant-loop-job
 invariant-loop-job g l = record {
   ended : (job : ℕ) → 1 ≤ job → job ≤ l.job → IsTrue (has_ended job l.self.calls);
-  made : HasBegun g.C.Clock.gives l.fn.self l.self (AreByTurns (length l.fn.self.scripts.scripts) [] l.fn.self.calls) (AreByTurns (length l.fn.self.scripts.scripts) [] l.self.calls);
+  made : HasBegun g.S.Store.tells g.S.Store.disk g.C.Clock.gives l.fn.self l.self (AreByTurns (length l.fn.self.scripts.scripts) [] l.fn.self.calls) (AreByTurns (length l.fn.self.scripts.scripts) [] l.self.calls);
 }

@@ -4,8 +4,10 @@ use Rattle.library_model.specs.declared.limits.TheConstants.{MOST_JOBS}
 use Rattle.library_model.specs.Ending.{is_end_job}
 use Rattle.job_runner.specs.declared.session.Stepped.TheVariants as stepped
 use Rattle.job_runner.specs.Places.{unended}
+use Rattle.job_runner.proofs.LedLemmas.{HasCalled}
 use Rattle.job_runner.proofs.MadeLemmas.{HasMade-called}
 use Rattle.job_runner.proofs.PlaceLemmas.{Called, IsSession-next, IsSession-same, place-here, place-is, runs-still, on_is_ok, unended-most, fits-end, ended-then, ended-else, remaining-called}
+use Rattle.run_laws.proofs.GrownLemmas.{entries-grow}
 use Rattle.job_runner.proofs.session.Session.step_job.Goals as goal
 
 pub returns-then-place-clause-ended : goal.returns-then-place-clause-ended
@@ -47,7 +49,7 @@ call-reply-requires-clause-ready g c =
     let within = rw (← c.self.view_is) at c.requires in
     let here = place-here _ _ _ _ _ c.args.job c.index_mut-place.result.now c.self.invariant within c.index_mut-place.ensures.value in
     record {
-      alive = sym c.failed.ensures ∙ c.if-failed.false;
+      alive = sym c.failed.ensures.failed ∙ c.if-failed.false;
       running = runs-still _ _ _ _ _ c.args.job c.index_mut-place.result.now c.self.invariant within.0 here c.if-place.false;
       sound = c.self.invariant.sound;
     }
@@ -84,7 +86,25 @@ returns-clause-called g c = λ e.
     let here = place-here _ _ _ _ _ c.args.job c.index_mut-place.result.now c.self.invariant within c.index_mut-place.ensures.value in
     let running = runs-still _ _ _ _ _ c.args.job c.index_mut-place.result.now c.self.invariant within.0 here c.if-place.false in
     let made : Call = record { job = c.args.job; timestamp = c.now-timestamp.result; request = c.in-Ok.request; reply = c.call-reply.result } in
-    (made, refl, rw (← c.self.view_is) (HasMade-called g.C.Clock.gives _ _ made (sym c.failed.ensures ∙ c.if-failed.false) running c.call-reply.ensures.goes (rw c.reserve.ensures.unchanged at c.push.ensures.calls) (rw c.reserve.ensures.unchanged at c.in-Ok.ensures.asked) c.now-timestamp.ensures refl c.call-reply.ensures.store c.call-reply.ensures.alive))
+    let journaled = c.failed.ensures.journaled c.if-failed.false in
+    let state = c.self.inside.library.state in
+    let called : HasCalled g.S.Store.tells g.S.Store.disk c.self.inside.scripts.sources c.self.inside.library c.call-reply.new.library made = record {
+      alive = sym c.failed.ensures.failed ∙ c.if-failed.false;
+      running = running;
+      goes = c.call-reply.ensures.goes;
+      moments = c.call-reply.ensures.moments;
+      still = c.call-reply.ensures.still;
+      left = c.call-reply.ensures.left;
+      acknowledged = c.call-reply.ensures.acknowledged;
+      least = c.call-reply.ensures.least;
+      whole = c.call-reply.ensures.whole;
+      all = c.call-reply.ensures.all;
+      receiver = c.call-reply.ensures.receiver;
+      grows = entries-grow state journaled.may.unsaved c.self.invariant.sound.numbered c.self.inside.scripts.sources c.args.job c.now-timestamp.result c.in-Ok.request;
+    } in
+    let calls = rw c.reserve.ensures.unchanged at c.push.ensures.calls in
+    let asks_it = rw c.reserve.ensures.unchanged at c.in-Ok.ensures.asked in
+    (made, refl, rw (← c.self.view_is) (HasMade-called g.S.Store.tells g.S.Store.disk g.C.Clock.gives _ _ made called c.call-reply.ensures.faults c.call-reply.ensures.cause calls asks_it c.now-timestamp.ensures refl))
 
 pub returns-clause-nearer : goal.returns-clause-nearer
 returns-clause-nearer g c = λ e.

@@ -1,11 +1,12 @@
-use Rattle.std.proofs.Common.{◌≡◌, inl, inr, ℕ, ◌+◌, Err, IsErrOf, [], ◌∷◌, length, ap, ◌∙◌, arith}
+use Rattle.std.proofs.Common.{◌≡◌, inl, inr, ℕ, ◌+◌, Err, IsErrOf, [], ◌∷◌, length, refl, ap, ◌∙◌, arith}
 use Rattle.std.proofs.Math.Logic.{∥∥₁_map}
 use Rattle.std.proofs.lemmas.Result.{err_from_is_err_and}
 use Rattle.receiver_chain.specs.declared.fault.ChainFault.{ChainFault}
 use Rattle.receiver_chain.specs.declared.fault.ChainFault.TheVariants.{NoMemory, StoreFault}
 use Rattle.receiver_chain.specs.Chain.{attached_of}
+use Rattle.receiver_chain.proofs.Others.{roots_here, roots_then}
 use Rattle.journal_book.specs.Switch.{AreTieBlocks}
-use Rattle.journal_book.proofs.Attaching.{leaves_exactly_more, leaves_more, rose_after, switch_exactly, switch_moments, ties_forced}
+use Rattle.journal_book.proofs.Attaching.{leaves_exactly_more, leaves_more, rose_after, switch_exactly, switch_moments, switch_unswitched, ties_forced}
 use Rattle.journal_book.proofs.Forcing.{all_counted, none_exactly, none_moment}
 use Rattle.journal_book.proofs.book.Book.switch_by.Goals as goal
 
@@ -148,3 +149,55 @@ returns-clause-freed g c = omega (arith, c.force.ensures.freed, c.attach.ensures
 
 pub returns-clause-no_longer : goal.returns-clause-no_longer
 returns-clause-no_longer g c = omega (arith, c.force.ensures.no_longer, ap length c.attach.ensures.buffered)
+
+pub returns-in_err-receiver-clause-same_next : goal.returns-in_err-receiver-clause-same_next
+returns-in_err-receiver-clause-same_next g c = λ is.
+    omega (arith, c.in_ok-force.ensures.all, c.in_ok-force.ensures.nothing_waits, c.force.ensures.first, c.in_err-receiver.ensures.same_count, c.attach.ensures.nothing_waits, c.attach.ensures.first)
+
+pub returns-in_err-ending-clause-same_forced : goal.returns-in_err-ending-clause-same_forced
+returns-in_err-ending-clause-same_forced g c = λ is. inl refl
+
+pub returns-in_err-beginning-clause-same_forced : goal.returns-in_err-beginning-clause-same_forced
+returns-in_err-beginning-clause-same_forced g c = λ is. inl refl
+
+pub returns-in_err-receiver-clause-same_forced : goal.returns-in_err-receiver-clause-same_forced
+returns-in_err-receiver-clause-same_forced g c = λ is. inr (c.attach.ensures.nothing_waits ∙ c.in_ok-force.ensures.nothing_waits)
+
+pub returns-in_err-receiver-clause-same_places : goal.returns-in_err-receiver-clause-same_places
+returns-in_err-receiver-clause-same_places g c = λ is. omega (arith, c.in_ok-force.ensures.less_places, c.attach.ensures.places)
+
+pub returns-in_err-receiver-clause-faults : goal.returns-in_err-receiver-clause-faults
+returns-in_err-receiver-clause-faults g c = omega (arith, c.force.ensures.faults, c.attach.ensures.faults)
+
+pub returns-clause-faults : goal.returns-clause-faults
+returns-clause-faults g c = omega (arith, c.force.ensures.faults, c.attach.ensures.faults)
+
+pub returns-in_err-ending-clause-wanting : goal.returns-in_err-ending-clause-wanting
+returns-in_err-ending-clause-wanting g c = λ is tells entries holds. none_exactly c.args.self.now entries (g.S.Store.disk c.args.store.now) holds
+
+pub returns-in_err-beginning-clause-wanting : goal.returns-in_err-beginning-clause-wanting
+returns-in_err-beginning-clause-wanting g c = λ is tells entries holds. none_exactly c.args.self.now entries (g.S.Store.disk c.args.store.now) holds
+
+pub returns-in_err-force-clause-wanting : goal.returns-in_err-force-clause-wanting
+returns-in_err-force-clause-wanting g c = λ is tells entries holds. c.force.ensures.exactly tells entries holds
+
+pub returns-in_err-receiver-clause-wanting : goal.returns-in_err-receiver-clause-wanting
+returns-in_err-receiver-clause-wanting g c = λ is tells entries holds.
+    let p = err_from_is_err_and c.from_residual-in_err-receiver.result c.from_residual-in_err-receiver.ensures.1 in
+    let same : c.in_err-receiver.field-0.0 ≡ NoMemory = cc (p.1, p.2, is) in
+    let named : IsErrOf {T = ℕ} (Err c.in_err-receiver.field-0.0) NoMemory = ap (λ (e : ChainFault). Err e) same in
+    switch_unswitched c.args.self.now c.force.new.self entries (g.S.Store.disk c.args.store.now) (g.S.Store.disk c.force.new.store) (g.S.Store.disk c.attach.new.store) c.force.ensures.receiver
+    (c.force.ensures.exactly tells entries holds) (c.in_err-receiver.ensures.unswitched named tells entries (c.in_ok-force.ensures.forced tells entries holds))
+
+pub returns-in_err-ending-clause-roots : goal.returns-in_err-ending-clause-roots
+returns-in_err-ending-clause-roots g c = roots_here (g.S.Store.disk c.args.store.now)
+
+pub returns-in_err-beginning-clause-roots : goal.returns-in_err-beginning-clause-roots
+returns-in_err-beginning-clause-roots g c = roots_here (g.S.Store.disk c.args.store.now)
+
+pub returns-in_err-receiver-clause-roots : goal.returns-in_err-receiver-clause-roots
+returns-in_err-receiver-clause-roots g c = roots_then (g.S.Store.disk c.args.store.now) (g.S.Store.disk c.force.new.store) (g.S.Store.disk c.attach.new.store) c.force.ensures.roots
+    c.attach.ensures.roots
+
+pub returns-clause-roots : goal.returns-clause-roots
+returns-clause-roots g c = roots_then (g.S.Store.disk c.args.store.now) (g.S.Store.disk c.force.new.store) (g.S.Store.disk c.attach.new.store) c.force.ensures.roots c.attach.ensures.roots

@@ -1,4 +1,4 @@
-use Rattle.std.proofs.Common.{◌∙◌, ◌+◌, ◌≤◌, length, ap, subst}
+use Rattle.std.proofs.Common.{◌∙◌, ◌+◌, ◌≤◌, inl, inr, length, ap, subst}
 use Rattle.receiver_chain.specs.Chain.{ChainState}
 use Rattle.journal_book.specs.Book.{BookState}
 use Rattle.kept_journal.proofs.CallLemmas.{ok-map, taken-held, taken-holds, taken-moments, taken-next, taken-place}
@@ -32,3 +32,6 @@ returns-clause-number g c = c.settle.ensures.number ∙ ap (λ (b : BookState). 
 pub returns-clause-less_places : goal.returns-clause-less_places
 returns-clause-less_places g c =
     ok-map c.settle.result c.settle.ensures.less_places (λ less. subst (λ (chain : ChainState). chain.room ≤ c.settle.new.self.chain.room + 1) (ap (λ (b : BookState). b.chain) c.take.ensures.taken) less)
+
+pub returns-clause-whole : goal.returns-clause-whole
+returns-clause-whole g c = ok-map c.settle.result c.settle.ensures.whole (λ which. elim which [ inl same ↦ inl (same ∙ ap (λ (b : BookState). b.forced) c.take.ensures.taken) | inr none ↦ inr none ])

@@ -60,3 +60,8 @@ pub returns-clause-no_memory : goal.returns-clause-no_memory
 returns-clause-no_memory g c =
     subst (λ (v : BookState). IsErrOf c.switch.result NoMemory → g.S.Store.tells → (entries : List Entry) → Holds v entries (g.S.Store.disk c.args.store.now) → Holds c.switch.new.self entries (g.S.Store.disk c.switch.new.store)) c.self.view_is
     c.switch.ensures.no_memory
+
+pub returns-clause-wanting : goal.returns-clause-wanting
+returns-clause-wanting g c =
+    subst (λ (v : BookState). IsErrOf c.switch.result NoMemory → g.S.Store.tells → (entries : List Entry) → Holds v entries (g.S.Store.disk c.args.store.now) → Leaves (g.S.Store.disk c.args.store.now) (g.S.Store.disk c.switch.new.store) (IsForcedOrFrom v.chain.first v.forced (length entries) entries)) c.self.view_is
+    c.switch.ensures.wanting

@@ -4,11 +4,12 @@ use Rattle.store_model.specs.Disk.{Leaves}
 use Rattle.gated_log.specs.Log.{LogState, Anything}
 use Rattle.gated_log.proofs.Kept.{settled_apart}
 use Rattle.receiver_chain.specs.Links.{IsLink}
-use Rattle.receiver_chain.specs.Receivers.{area_of, deposited, switched}
+use Rattle.receiver_chain.specs.Receivers.{AreChained, area_of, deposited, switched}
 use Rattle.receiver_chain.specs.Chain.{ChainState, Holds, IsSwitching, attached_of, firsts, lengths_in, logs_of}
 use Rattle.receiver_chain.proofs.LinkLemmas.{start_no_link}
 use Rattle.receiver_chain.proofs.Deposits.{deposit_holds}
-use Rattle.receiver_chain.proofs.Switches.{link_length, start_length, reserved_holds, none_moment, made_moment, made_holds, tied_moment, tied_holds, begun_moment, switch_firsts, switch_lengths}
+use Rattle.receiver_chain.proofs.Switches.{link_length, start_length, reserved_holds, next_moment, none_chained, none_moment, made_moment, made_holds, tied_moment, tied_holds, begun_moment, switch_firsts, switch_lengths}
+use Rattle.receiver_chain.proofs.Others.{roots_does, roots_here, roots_then}
 use Rattle.receiver_chain.proofs.chain.Chain.attach_next.Goals as goal
 
 pub sequence_of-requires : goal.sequence_of-requires
@@ -207,3 +208,74 @@ returns-clause-lengths g c = λ blocks.
     switch_lengths c.self.inside.earlier.items c.push_reserved.new.self.items c.append.new.self c.replace.new.dest (c.self.inside.attached.lengths ++ length blocks.ending ∷ [])
     (length blocks.beginning ∷ []) pushed more last
     ∙ ap (λ (v : ChainState). lengths_in v.earlier ++ (v.attached.lengths ++ length blocks.ending ∷ []) ∷ (length blocks.beginning ∷ []) ∷ []) c.self.view_is
+
+pub returns-in_err-next-clause-faults : goal.returns-in_err-next-clause-faults
+returns-in_err-next-clause-faults g c = c.make_next.ensures.any_moment.later.faults
+
+pub returns-in_err-append-clause-faults : goal.returns-in_err-append-clause-faults
+returns-in_err-append-clause-faults g c = omega (arith, c.make_next.ensures.any_moment.later.faults, c.append.ensures.apart.later.faults)
+
+pub returns-in_err-append-2-clause-faults : goal.returns-in_err-append-2-clause-faults
+returns-in_err-append-2-clause-faults g c = omega (arith, c.make_next.ensures.any_moment.later.faults, c.append.ensures.apart.later.faults, c.append-2.ensures.apart.later.faults)
+
+pub returns-clause-faults : goal.returns-clause-faults
+returns-clause-faults g c = omega (arith, c.make_next.ensures.any_moment.later.faults, c.append.ensures.apart.later.faults, c.append-2.ensures.apart.later.faults)
+
+pub returns-in_default-clause-unswitched : goal.returns-in_default-clause-unswitched
+returns-in_default-clause-unswitched g c = λ is tells kept holds. none_chained c.args.self.now.first c.args.self.now.room c.args.self.now.earlier c.args.self.now.attached kept (g.S.Store.disk c.args.store.now) holds
+
+pub returns-in_err-reserve-clause-unswitched : goal.returns-in_err-reserve-clause-unswitched
+returns-in_err-reserve-clause-unswitched g c = λ is tells kept holds. none_chained c.args.self.now.first c.args.self.now.room c.args.self.now.earlier c.args.self.now.attached kept (g.S.Store.disk c.args.store.now) holds
+
+pub returns-in_err-reserve-2-clause-unswitched : goal.returns-in_err-reserve-2-clause-unswitched
+returns-in_err-reserve-2-clause-unswitched g c = λ is tells kept holds. none_chained c.args.self.now.first c.args.self.now.room c.args.self.now.earlier c.args.self.now.attached kept (g.S.Store.disk c.args.store.now) holds
+
+pub returns-in_err-next-clause-unswitched : goal.returns-in_err-next-clause-unswitched
+returns-in_err-next-clause-unswitched g c = λ told tells kept holds.
+    let reserved = reserved_holds c.self.inside.first c.self.inside.room c.self.inside.earlier.items c.reserve.new.self.items c.self.inside.attached c.reserve-2.new.self kept
+    (g.S.Store.disk c.args.store.now) (subst (λ (v : ChainState). Holds v kept (g.S.Store.disk c.args.store.now)) (sym c.self.view_is) holds)
+    c.reserve.ensures.items c.reserve-2.ensures.same_area c.reserve-2.ensures.same_first c.reserve-2.ensures.same_version c.reserve-2.ensures.same_lengths in
+    let number : attached_of c.args.self.now ≡ c.self.inside.first + length c.reserve.new.self.items = omega
+    (arith, ap (λ (v : ChainState). attached_of v) c.self.view_is, ap length c.reserve.ensures.items) in
+    let is : area_of (c.attached-receiver.result + 1) ≡ area_of (c.self.inside.first + length c.reserve.new.self.items + 1) = omega (arith, c.attached-receiver.ensures.number, number) in
+    subst (λ (v : ChainState). Leaves (g.S.Store.disk c.args.store.now) (g.S.Store.disk c.make_next.new.store) (AreChained v.first kept)) c.self.view_is
+    (next_moment c.self.inside.first c.self.inside.room c.reserve.new.self.items c.reserve-2.new.self kept (g.S.Store.disk c.args.store.now) reserved
+    (area_of (c.attached-receiver.result + 1)) is Anything (g.S.Store.disk c.make_next.new.store) c.make_next.ensures.any_moment)
+
+pub returns-in_default-clause-roots : goal.returns-in_default-clause-roots
+returns-in_default-clause-roots g c = roots_here (g.S.Store.disk c.args.store.now)
+
+pub returns-in_err-reserve-clause-roots : goal.returns-in_err-reserve-clause-roots
+returns-in_err-reserve-clause-roots g c = roots_here (g.S.Store.disk c.args.store.now)
+
+pub returns-in_err-reserve-2-clause-roots : goal.returns-in_err-reserve-2-clause-roots
+returns-in_err-reserve-2-clause-roots g c = roots_here (g.S.Store.disk c.args.store.now)
+
+pub returns-in_err-next-clause-roots : goal.returns-in_err-next-clause-roots
+returns-in_err-next-clause-roots g c =
+    roots_does (area_of (c.attached-receiver.result + 1)) Anything (g.S.Store.disk c.args.store.now) (g.S.Store.disk c.make_next.new.store) (omega arith) c.make_next.ensures.any_moment
+
+pub returns-in_err-append-clause-roots : goal.returns-in_err-append-clause-roots
+returns-in_err-append-clause-roots g c =
+    roots_then (g.S.Store.disk c.args.store.now) (g.S.Store.disk c.make_next.new.store) (g.S.Store.disk c.append.new.store)
+    (roots_does (area_of (c.attached-receiver.result + 1)) Anything (g.S.Store.disk c.args.store.now) (g.S.Store.disk c.make_next.new.store) (omega arith) c.make_next.ensures.any_moment)
+    (roots_does c.reserve-2.new.self.area Anything (g.S.Store.disk c.make_next.new.store) (g.S.Store.disk c.append.new.store)
+    (omega (arith, c.reserve-2.ensures.same_area, c.self.invariant.0, c.self.invariant.2)) c.append.ensures.apart)
+
+pub returns-in_err-append-2-clause-roots : goal.returns-in_err-append-2-clause-roots
+returns-in_err-append-2-clause-roots g c =
+    roots_then (g.S.Store.disk c.args.store.now) (g.S.Store.disk c.append.new.store) (g.S.Store.disk c.append-2.new.store)
+    (roots_then (g.S.Store.disk c.args.store.now) (g.S.Store.disk c.make_next.new.store) (g.S.Store.disk c.append.new.store)
+    (roots_does (area_of (c.attached-receiver.result + 1)) Anything (g.S.Store.disk c.args.store.now) (g.S.Store.disk c.make_next.new.store) (omega arith) c.make_next.ensures.any_moment)
+    (roots_does c.reserve-2.new.self.area Anything (g.S.Store.disk c.make_next.new.store) (g.S.Store.disk c.append.new.store)
+    (omega (arith, c.reserve-2.ensures.same_area, c.self.invariant.0, c.self.invariant.2)) c.append.ensures.apart))
+    (roots_does c.in_ok-next.next.area Anything (g.S.Store.disk c.append.new.store) (g.S.Store.disk c.append-2.new.store) (omega (arith, c.in_ok-next.ensures.area)) c.append-2.ensures.apart)
+
+pub returns-clause-roots : goal.returns-clause-roots
+returns-clause-roots g c =
+    roots_then (g.S.Store.disk c.args.store.now) (g.S.Store.disk c.append.new.store) (g.S.Store.disk c.append-2.new.store)
+    (roots_then (g.S.Store.disk c.args.store.now) (g.S.Store.disk c.make_next.new.store) (g.S.Store.disk c.append.new.store)
+    (roots_does (area_of (c.attached-receiver.result + 1)) Anything (g.S.Store.disk c.args.store.now) (g.S.Store.disk c.make_next.new.store) (omega arith) c.make_next.ensures.any_moment)
+    (roots_does c.reserve-2.new.self.area Anything (g.S.Store.disk c.make_next.new.store) (g.S.Store.disk c.append.new.store)
+    (omega (arith, c.reserve-2.ensures.same_area, c.self.invariant.0, c.self.invariant.2)) c.append.ensures.apart))
+    (roots_does c.in_ok-next.next.area Anything (g.S.Store.disk c.append.new.store) (g.S.Store.disk c.append-2.new.store) (omega (arith, c.in_ok-next.ensures.area)) c.append-2.ensures.apart)

@@ -1,7 +1,9 @@
-use Rattle.std.proofs.Common.{◌+◌, sym, subst}
+use Rattle.std.proofs.Common.{◌+◌, sym, subst, arith}
+use Rattle.gated_log.specs.Log.{Anything}
 use Rattle.receiver_chain.specs.Links.{IsNoLink}
 use Rattle.receiver_chain.specs.Chain.{ChainState, Holds, IsHeld, attached_of}
 use Rattle.receiver_chain.proofs.Deposits.{held_settled, deposit_moment, deposit_holds}
+use Rattle.receiver_chain.proofs.Others.{roots_does}
 use Rattle.receiver_chain.proofs.chain.Chain.deposit_block.Goals as goal
 
 pub append-requires-clause-settled : goal.append-requires-clause-settled
@@ -32,3 +34,11 @@ returns-clause-any_moment g c = λ tells kept block framed holds.
     (Rattle.receiver_chain.specs.Chain.IsWithOrWithout v.first kept block)) c.self.view_is
     (deposit_moment c.self.inside.first c.self.inside.room c.self.inside.earlier.items c.self.inside.attached kept (g.S.Store.disk c.args.store.now) here block none (g.S.Store.disk c.append.new.store)
     (c.append.ensures.any_moment tells kept.attached.blocks block framed here.leads.log_of.settled))
+
+pub returns-in_err-append-clause-roots : goal.returns-in_err-append-clause-roots
+returns-in_err-append-clause-roots g c =
+    roots_does c.self.inside.attached.area Anything (g.S.Store.disk c.args.store.now) (g.S.Store.disk c.append.new.store) (omega (arith, c.self.invariant.0, c.self.invariant.2)) c.append.ensures.apart
+
+pub returns-clause-roots : goal.returns-clause-roots
+returns-clause-roots g c =
+    roots_does c.self.inside.attached.area Anything (g.S.Store.disk c.args.store.now) (g.S.Store.disk c.append.new.store) (omega (arith, c.self.invariant.0, c.self.invariant.2)) c.append.ensures.apart

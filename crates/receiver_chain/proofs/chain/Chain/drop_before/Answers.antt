@@ -4,6 +4,7 @@ use Rattle.store_model.specs.Disk.{Cut, Does}
 use Rattle.receiver_chain.specs.Receivers.{area_of, dropped}
 use Rattle.receiver_chain.specs.Chain.{Holds}
 use Rattle.receiver_chain.proofs.Drops.{cut_more, cut_upto, dropped_further, kept_leaves}
+use Rattle.receiver_chain.proofs.Others.{roots_cut, roots_does, roots_then}
 use Rattle.receiver_chain.proofs.chain.Chain.drop_before.Goals as goal
 
 pub returns-in_err-drop_first-clause-others : goal.returns-in_err-drop_first-clause-others
@@ -71,3 +72,16 @@ returns-clause-kept_stay g c = λ tells kept holds.
     kept_leaves c.args.self.now kept c.args.receiver (g.S.Store.disk c.args.store.now) (g.S.Store.disk c.loop-first.store) least c.requires.from c.requires.below holds
     (cut_upto (g.S.Store.disk c.args.store.now) (g.S.Store.disk c.loop-first.store) c.args.self.now.first c.loop-first.first (c.args.receiver + 1) c.loop-first.invariant.from
     c.loop-first.invariant.upto c.loop-first.invariant.moments)
+
+pub returns-in_err-drop_first-clause-roots : goal.returns-in_err-drop_first-clause-roots
+returns-in_err-drop_first-clause-roots g c =
+    let least : 1 ≤ c.args.self.now.first = omega (arith, c.first-first.ensures.number, c.first-first.ensures.least) in
+    roots_then (g.S.Store.disk c.args.store.now) (g.S.Store.disk c.loop-first.store) (g.S.Store.disk c.drop_first.new.store)
+    (roots_cut (g.S.Store.disk c.args.store.now) (g.S.Store.disk c.loop-first.store) c.args.self.now.first c.loop-first.first least c.loop-first.invariant.moments c.loop-first.invariant.others)
+    (roots_does (area_of c.loop-first.self.first) (Cut 0) (g.S.Store.disk c.loop-first.store) (g.S.Store.disk c.drop_first.new.store)
+    (omega (arith, least, c.loop-first.invariant.from, c.loop-first.invariant.first)) c.drop_first.ensures.does)
+
+pub returns-clause-roots : goal.returns-clause-roots
+returns-clause-roots g c =
+    let least : 1 ≤ c.args.self.now.first = omega (arith, c.first-first.ensures.number, c.first-first.ensures.least) in
+    roots_cut (g.S.Store.disk c.args.store.now) (g.S.Store.disk c.loop-first.store) c.args.self.now.first c.loop-first.first least c.loop-first.invariant.moments c.loop-first.invariant.others

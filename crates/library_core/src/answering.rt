@@ -1,0 +1,311 @@
+//! How a request is answered where the journal stands on a disk: room for its block is made first, and what it deposits is forced behind it. `library.rt`
+//! has the library.
+ghost use Rattle.std.specs.Prelude.{◌≡◌, ◌+◌, ◌*◌, ◌≤◌, ◌<◌, true, false, Ok, List, drop, length, IfOk, IsErr, IsOk, IsTrue, OnOk};
+ghost use Rattle.journal_book.specs.Book.{HasMoreRoom, IsHeld};
+ghost use Rattle.kept_journal.specs.Journals.{MayWait};
+ghost use Rattle.answered_sources.specs.Answered.{AreAnswered};
+ghost use Rattle.built_requests.specs.Built.{is_built};
+ghost use Rattle.deposited_entries.specs.Deposits.{AreShort, switches};
+ghost use Rattle.block_places.specs.Dues.{has_entries};
+ghost use Rattle.joint_state.specs.Sound.{IsSound};
+ghost use Rattle.library_model.specs.NeedsMemory.{needs_memory};
+ghost use Rattle.library_model.specs.declared.requests.Request.TheVariants.{ChangeJournal};
+ghost use Rattle.library_model.specs.declared.sources.NamedSource.{NamedSource};
+ghost use Rattle.library_steps.specs.State.{job_at, memory_of};
+ghost use Rattle.library_steps.specs.History.{is_running};
+ghost use Rattle.library_steps.specs.Receivers.{attach_plan};
+ghost use Rattle.library_steps.specs.declared.limits.TheConstants.{LAST_RECEIVER, LAST_SEQUENCE};
+ghost use Rattle.library_parts.specs.Answers.{Gives, reply_of};
+ghost use Rattle.library_core.specs.Fronts.{entries_behind};
+ghost use Rattle.library_core.specs.Journaled.{IsJournaled};
+ghost use Rattle.library_core.specs.Puts.{HasAnswered, HasPut, HasTaken, answer_given, are_put, places_taken};
+
+use crate::dispatch::perform;
+use crate::kinds;
+use crate::laws::journal_lasts;
+use entry_codec::Entry;
+use forced_calls::is_forced;
+use gated_log::StoreFault;
+use journal_requests::{apply_attach, attach_drafts, plan_attach, prepare_attach};
+use kept_journal::{KeptJournal, MUCH};
+use library_model::replies::Reply;
+use library_model::requests::Request;
+use library_model::sources::Sources;
+use library_parts::{Contents, Stop};
+use receiver_chain::ChainFault;
+use sound_histories::each_call_leaves_a_sound_library;
+use std::alloc::AllocError;
+use store_model::Store;
+
+/// So many jobs have block places, two each and one more, whose number is a u32.
+const MOST_JOBS: usize = 2_147_483_647;
+
+/// Answers a request of a job, and tells whether the store was found at fault.
+pub(crate) fn answer<S: Store>(
+    contents: &mut Contents,
+    journal: &mut KeptJournal,
+    store: &mut S,
+    job: u32,
+    timestamp: u64,
+    sources: &Sources,
+    request: &Request,
+) -> (Reply, bool)
+    requires running { IsTrue (is_running (job_at job contents.old.state.jobs)) }
+    requires built { IsTrue (is_built request.now) }
+    requires answered { AreAnswered sources.now }
+    requires short { AreShort sources.now }
+    requires sound { IsSound contents.old.state }
+    requires journaled { IsJournaled S.tells (S.disk store.old) journal.old contents.old.state }
+    ensures put { HasPut S.tells (S.disk store.old) (S.disk store.new) journal.old journal.new contents.old.state contents.new.state request.now (entries_behind sources.now contents.old.state (record { job = job; timestamp = timestamp; request = request.now; reply = result.0 })) result.1 }
+    ensures answered { HasAnswered sources.now contents.old.state contents.new.state journal.new (record { job = job; timestamp = timestamp; request = request.now; reply = result.0 }) result.1 }
+{
+    if kinds::switches(request) {
+        attach_receiver(contents, journal, store, job, timestamp)
+    } else {
+        answer_other(contents, journal, store, job, timestamp, sources, request)
+    }
+}
+
+/// Answers any request but CHGJRN.
+fn answer_other<S: Store>(
+    contents: &mut Contents,
+    journal: &mut KeptJournal,
+    store: &mut S,
+    job: u32,
+    timestamp: u64,
+    sources: &Sources,
+    request: &Request,
+) -> (Reply, bool)
+    requires running { IsTrue (is_running (job_at job contents.old.state.jobs)) }
+    requires built { IsTrue (is_built request.now) }
+    requires answered { AreAnswered sources.now }
+    requires short { AreShort sources.now }
+    requires other { switches request.now ≡ false }
+    requires sound { IsSound contents.old.state }
+    requires journaled { IsJournaled S.tells (S.disk store.old) journal.old contents.old.state }
+    ensures put { HasPut S.tells (S.disk store.old) (S.disk store.new) journal.old journal.new contents.old.state contents.new.state request.now (entries_behind sources.now contents.old.state (record { job = job; timestamp = timestamp; request = request.now; reply = result.0 })) result.1 }
+    ensures answered { HasAnswered sources.now contents.old.state contents.new.state journal.new (record { job = job; timestamp = timestamp; request = request.now; reply = result.0 }) result.1 }
+{
+    // A sound library stays sound, and each change of an open commit cycle stands in it as it was made.
+    each_call_leaves_a_sound_library();
+    journal_lasts();
+    if !make_room(journal, contents.jobs_begun(), request) {
+        return (Reply::NoMemory, false);
+    }
+    let before = kept_count(contents);
+    let done = perform(contents, job, timestamp, sources, request);
+    let put = put_done(contents, journal, store, before, request, &done);
+    given(put, done)
+}
+
+/// Makes room for the block of a request that may want memory, and for what is due behind it. `false`: there was no memory.
+fn make_room(journal: &mut KeptJournal, jobs: usize, request: &Request) -> bool
+    ensures same { HasMoreRoom journal.old journal.new }
+    ensures room { result ≡ true → needs_memory request.now ≡ true → 2 * jobs + 1 ≤ journal.new.chain.room }
+    ensures refused { result ≡ false → needs_memory request.now ≡ true }
+{
+    if kinds::wants_memory(request) {
+        reserve_for(journal, jobs).is_ok()
+    } else {
+        true
+    }
+}
+
+/// Makes room for the blocks that are due while so many jobs have begun, and for one more.
+pub(crate) fn reserve_for(journal: &mut KeptJournal, jobs: usize) -> Result<(), AllocError>
+    ensures same { HasMoreRoom journal.old journal.new }
+    ensures room { OnOk result (2 * jobs + 1 ≤ journal.new.chain.room) }
+{
+    if jobs > MOST_JOBS {
+        return Err(AllocError);
+    }
+    journal.reserve(2 * jobs as u32 + 1)
+}
+
+/// All entries that are kept.
+fn kept_entries(contents: &Contents) -> &[Entry]
+    ensures { result.now ≡ contents.now.state.entries }
+{
+    let (kept, last) = contents.bounds();
+    match contents.entries(kept, last) {
+        Ok(entries) => entries,
+        Err(_) => &[],
+    }
+}
+
+/// How many entries are kept.
+fn kept_count(contents: &Contents) -> usize
+    ensures { result ≡ length contents.now.state.entries }
+{
+    kept_entries(contents).len()
+}
+
+/// Puts the entries behind so many, where the request was done.
+fn put_done<S: Store>(
+    contents: &Contents,
+    journal: &mut KeptJournal,
+    store: &mut S,
+    before: usize,
+    request: &Request,
+    done: &Result<Reply, Stop>,
+) -> Result<(), StoreFault>
+    requires before { IsOk done.now → before ≤ length contents.now.state.entries }
+    requires held { S.tells → IsHeld journal.old (S.disk store.old) }
+    requires little { length journal.old.buffered < MUCH }
+    requires may { IsOk done.now → MayWait journal.old (drop before contents.now.state.entries) }
+    requires place { IsOk done.now → places_taken request.now (drop before contents.now.state.entries) ≤ journal.old.chain.room }
+    ensures taken { IsOk done.now → HasTaken S.tells (S.disk store.old) (S.disk store.new) journal.old journal.new request.now (drop before contents.now.state.entries) result }
+    ensures nothing { IsErr done.now → IsOk result }
+    ensures same_journal { IsErr done.now → journal.new ≡ journal.old }
+    ensures same_store { IsErr done.now → store.new ≡ store.old }
+{
+    match done {
+        Ok(_) => put_behind(contents, journal, store, before, request),
+        Err(_) => Ok(()),
+    }
+}
+
+/// Puts the entries behind so many.
+fn put_behind<S: Store>(
+    contents: &Contents,
+    journal: &mut KeptJournal,
+    store: &mut S,
+    before: usize,
+    request: &Request,
+) -> Result<(), StoreFault>
+    requires before { before ≤ length contents.now.state.entries }
+    requires held { S.tells → IsHeld journal.old (S.disk store.old) }
+    requires little { length journal.old.buffered < MUCH }
+    requires may { MayWait journal.old (drop before contents.now.state.entries) }
+    requires place { places_taken request.now (drop before contents.now.state.entries) ≤ journal.old.chain.room }
+    ensures { HasTaken S.tells (S.disk store.old) (S.disk store.new) journal.old journal.new request.now (drop before contents.now.state.entries) result }
+{
+    let all = kept_entries(contents);
+    put_entries(journal, store, &all[before..], request)
+}
+
+/// Puts the entries of a call that was done, if there are some or the call is forced.
+fn put_entries<S: Store>(
+    journal: &mut KeptJournal,
+    store: &mut S,
+    entries: &[Entry],
+    request: &Request,
+) -> Result<(), StoreFault>
+    requires held { S.tells → IsHeld journal.old (S.disk store.old) }
+    requires little { length journal.old.buffered < MUCH }
+    requires may { MayWait journal.old entries.now }
+    requires place { places_taken request.now entries.now ≤ journal.old.chain.room }
+    ensures { HasTaken S.tells (S.disk store.old) (S.disk store.new) journal.old journal.new request.now entries.now result }
+{
+    if are_put(request, entries) {
+        journal.put_call(store, entries, is_forced(request, entries))
+    } else {
+        Ok(())
+    }
+}
+
+/// Whether a call with these entries is forced or has some.
+fn are_put(request: &Request, entries: &[Entry]) -> bool
+    ensures { result ≡ are_put request.now entries.now }
+{
+    is_forced(request, entries) || has_entries(entries)
+}
+
+/// Whether there are some.
+fn has_entries(entries: &[Entry]) -> bool
+    ensures { result ≡ has_entries entries.now }
+{
+    match entries {
+        [] => false,
+        [_, ..] => true,
+    }
+}
+
+/// What is answered to the job, and whether the store was found at fault.
+fn given(put: Result<(), StoreFault>, done: Result<Reply, Stop>) -> (Reply, bool)
+    ensures { result ≡ answer_given put done }
+{
+    match put {
+        Ok(()) => (reply_of(done), false),
+        Err(_) => (Reply::StoreFault, true),
+    }
+}
+
+/// What is answered where the store wasn't found at fault.
+fn reply_of(done: Result<Reply, Stop>) -> Reply
+    ensures { result ≡ reply_of done }
+{
+    match done {
+        Ok(reply) => reply,
+        Err(Stop::NoMemory) => Reply::NoMemory,
+        Err(Stop::Refused(reply)) => reply,
+    }
+}
+
+/// CHGJRN: the disk's memory is asked for before anything changes, and the next receiver is attached there first.
+fn attach_receiver<S: Store>(
+    contents: &mut Contents,
+    journal: &mut KeptJournal,
+    store: &mut S,
+    job: u32,
+    timestamp: u64,
+) -> (Reply, bool)
+    requires running { IsTrue (is_running (job_at job contents.old.state.jobs)) }
+    requires sound { IsSound contents.old.state }
+    requires journaled { IsJournaled S.tells (S.disk store.old) journal.old contents.old.state }
+    ensures put { (sources : List NamedSource) → HasPut S.tells (S.disk store.old) (S.disk store.new) journal.old journal.new contents.old.state contents.new.state ChangeJournal (entries_behind sources contents.old.state (record { job = job; timestamp = timestamp; request = ChangeJournal; reply = result.0 })) result.1 }
+    ensures answered { (sources : List NamedSource) → HasAnswered sources contents.old.state contents.new.state journal.new (record { job = job; timestamp = timestamp; request = ChangeJournal; reply = result.0 }) result.1 }
+{
+    match ready_to_attach(contents, journal) {
+        Ok(number) => switch_receivers(contents, journal, store, job, timestamp, number),
+        Err(stop) => (reply_of(Err(stop)), false),
+    }
+}
+
+/// Attaches the receiver with this number, on the disk and then in memory.
+fn switch_receivers<S: Store>(
+    contents: &mut Contents,
+    journal: &mut KeptJournal,
+    store: &mut S,
+    job: u32,
+    timestamp: u64,
+    number: u32,
+) -> (Reply, bool)
+    requires running { IsTrue (is_running (job_at job contents.old.state.jobs)) }
+    requires sound { IsSound contents.old.state }
+    requires journaled { IsJournaled S.tells (S.disk store.old) journal.old contents.old.state }
+    requires plan { attach_plan (memory_of contents.old.state) ≡ Ok number }
+    requires next { number ≡ contents.old.state.receivers.attached + 1 }
+    requires few { number ≤ LAST_RECEIVER }
+    requires left { (memory_of contents.old.state).last_entry ≤ LAST_SEQUENCE }
+    requires room { 2 ≤ contents.old.room.entries }
+    requires places { 2 * length contents.old.state.jobs + 1 ≤ journal.old.chain.room }
+    ensures put { (sources : List NamedSource) → HasPut S.tells (S.disk store.old) (S.disk store.new) journal.old journal.new contents.old.state contents.new.state ChangeJournal (entries_behind sources contents.old.state (record { job = job; timestamp = timestamp; request = ChangeJournal; reply = result.0 })) result.1 }
+    ensures answered { (sources : List NamedSource) → HasAnswered sources contents.old.state contents.new.state journal.new (record { job = job; timestamp = timestamp; request = ChangeJournal; reply = result.0 }) result.1 }
+{
+    each_call_leaves_a_sound_library();
+    journal_lasts();
+    let (ending, beginning) = attach_drafts(contents, job, timestamp, number);
+    match journal.switch(contents.alloc(), store, ending, beginning) {
+        Ok(_) => (apply_attach(contents, job, timestamp, number), false),
+        Err(ChainFault::NoMemory) => (Reply::NoMemory, false),
+        Err(ChainFault::StoreFault) => (Reply::StoreFault, true),
+    }
+}
+
+/// What CHGJRN is refused by, or the number of the receiver that it attaches. Room is made for its entries and for the block that waits.
+fn ready_to_attach(contents: &mut Contents, journal: &mut KeptJournal) -> Result<u32, Stop>
+    ensures plan { Gives result (attach_plan (memory_of contents.new.state)) }
+    ensures next { IfOk result (λ number. number ≡ contents.new.state.receivers.attached + 1) }
+    ensures few { IfOk result (λ number. number ≤ LAST_RECEIVER) }
+    ensures left { IfOk result (λ number. (memory_of contents.new.state).last_entry ≤ LAST_SEQUENCE) }
+    ensures state { contents.new.state ≡ contents.old.state }
+    ensures room { OnOk result (2 ≤ contents.new.room.entries) }
+    ensures same { HasMoreRoom journal.old journal.new }
+    ensures places { OnOk result (2 * length contents.new.state.jobs + 1 ≤ journal.new.chain.room) }
+{
+    let number = plan_attach(contents)?;
+    prepare_attach(contents)?;
+    reserve_for(journal, contents.jobs_begun())?;
+    Ok(number)
+}

@@ -1,0 +1,6 @@
+//! A library opened from the store that keeps it. Begin with `opening.rt`.
+#![tactic(auto)]
+
+mod opening;
+
+pub use opening::open_library;

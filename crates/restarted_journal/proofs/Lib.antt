@@ -1,0 +1,4 @@
+pub mod Beginnings
+pub mod Depositing
+pub mod Ends
+pub mod Rooted

@@ -1,0 +1,52 @@
+use Rattle.std.proofs.lemmas.Result.{IfOk-weaker}
+use Rattle.restarted_journal.proofs.Rooted.{ended-left, ended-may, ended-restarted, ended-spelled, stays-may}
+use Rattle.restarted_journal.proofs.restarting.restart_journal.Goals as goal
+
+pub returns-in-Err-clause-moments : goal.returns-in-Err-clause-moments
+returns-in-Err-clause-moments g c = λ tells entries spells. stays-may (g.D.Describe.rules c.args.by.now) (g.S.Store.disk c.args.store.now) (g.S.Store.disk c.open_journal.new.store)
+    c.args.who.now.job c.args.who.now.moment entries c.open_journal.ensures.stays
+
+pub end_opened-requires-clause-left : goal.end_opened-requires-clause-left
+end_opened-requires-clause-left g c = c.in-Ok.ensures.left.0
+
+pub end_opened-requires-clause-whole : goal.end_opened-requires-clause-whole
+end_opened-requires-clause-whole g c = c.in-Ok.ensures.left.1
+
+pub end_opened-requires-clause-held : goal.end_opened-requires-clause-held
+end_opened-requires-clause-held g c = λ tells. (c.in-Ok.ensures.opened tells).0.held
+
+pub returns-clause-restarted : goal.returns-clause-restarted
+returns-clause-restarted g c =
+    IfOk-weaker c.end_opened.result _ _
+    (λ r ended. ended-restarted (g.D.Describe.rules c.args.by.now) g.S.Store.tells (g.S.Store.disk c.args.store.now) (g.S.Store.disk c.end_opened.new.store) c.args.who.now.job
+    c.args.who.now.moment c.in-Ok.opened.entries.items
+    c.in-Ok.opened.replay c.in-Ok.ensures.left.0 c.in-Ok.ensures.left.1 (λ tells. (c.in-Ok.ensures.opened tells).1) _ _ _ ended) c.end_opened.ensures.ended
+
+pub returns-clause-spelled : goal.returns-clause-spelled
+returns-clause-spelled g c =
+    IfOk-weaker c.end_opened.result _ _
+    (λ r ended tells. ended-spelled c.in-Ok.opened.roots (g.S.Store.disk c.open_journal.new.store) (g.S.Store.disk c.end_opened.new.store) (c.in-Ok.ensures.opened tells).0.roots_held
+    (c.in-Ok.ensures.opened tells).0.first c.end_opened.ensures.roots (g.D.Describe.rules c.args.by.now) c.args.who.now.job c.args.who.now.moment g.S.Store.tells tells
+    c.in-Ok.opened.entries.items _ _ _ ended) c.end_opened.ensures.ended
+
+pub returns-clause-durable : goal.returns-clause-durable
+returns-clause-durable g c =
+    IfOk-weaker c.end_opened.result _ _
+    (λ r ended tells. ended-left c.in-Ok.opened.roots (g.S.Store.disk c.open_journal.new.store) (g.S.Store.disk c.end_opened.new.store) (c.in-Ok.ensures.opened tells).0.roots_held
+    (c.in-Ok.ensures.opened tells).0.first c.end_opened.ensures.roots (g.D.Describe.rules c.args.by.now) c.args.who.now.job c.args.who.now.moment g.S.Store.tells tells
+    c.in-Ok.opened.entries.items _ _ _ ended) c.end_opened.ensures.ended
+
+pub returns-clause-moments : goal.returns-clause-moments
+returns-clause-moments g c = λ tells entries spells.
+    ended-may c.in-Ok.opened.roots (g.S.Store.disk c.open_journal.new.store) (g.S.Store.disk c.end_opened.new.store) (c.in-Ok.ensures.opened tells).0.roots_held
+    (c.in-Ok.ensures.opened tells).0.first c.end_opened.ensures.roots (g.D.Describe.rules c.args.by.now) c.args.who.now.job c.args.who.now.moment
+    (g.S.Store.disk c.args.store.now) c.open_journal.ensures.stays entries c.in-Ok.opened.entries.items spells (c.in-Ok.ensures.opened tells).1 (c.end_opened.ensures.moments tells)
+
+pub returns-clause-not_a_library : goal.returns-clause-not_a_library
+returns-clause-not_a_library g c = λ is tells. absurd (c.end_opened.ensures.never_empty is)
+
+pub returns-clause-damaged : goal.returns-clause-damaged
+returns-clause-damaged g c = λ area at is tells entries spells. c.end_opened.ensures.never_damaged area at is
+
+pub returns-clause-something : goal.returns-clause-something
+returns-clause-something g c = λ area at is tells same. c.end_opened.ensures.never_damaged area at is

@@ -1,0 +1,4 @@
+pub mod AnsweredLemmas
+pub mod GrownLemmas
+pub mod OutcomeLemmas
+pub mod BeginLemmas
