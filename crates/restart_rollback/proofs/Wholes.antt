@@ -55,7 +55,10 @@ rolled-whole job moment entries whole =
 
 -- what entries leave tells that they can be replayed
 pub left-reopens : (d : Descriptions) (entries : List Entry) (s : Standing) → IsLeftBy d entries s → EndsWhole (journal_with entries) → CanReopen d entries
-left-reopens d entries s left whole = record { replays = journal-whole d (journal_with entries) left.left.so_far whole left.stays }
+left-reopens d entries s left whole = record {
+  replays = journal-whole d (journal_with entries) left.left.so_far whole left.stays;
+  deposited = record { placed = left.placed; journaled = left.journaled };
+}
 
 -- ---- what a stop leaves
 

@@ -6,6 +6,7 @@ use Rattle.entry_codec.specs.declared.entries.Entry.{Entry}
 use Rattle.journal_model.specs.Catalogue.{Descriptions}
 use Rattle.journal_model.specs.Journal.{CanReplayJournal, open_cycles}
 use Rattle.journal_model.specs.Rollback.{numbered_from, restart_drafts, undos_of}
+use Rattle.journaled_entries.specs.Deposited.{AreDeposited}
 use Rattle.journal_book.specs.Kept.{SpellEntries}
 use Rattle.journal_opening.specs.Journals.{journal_with}
 
@@ -21,6 +22,7 @@ rolled_back job moment entries = entries ++ rollback_entries job moment entries
 -- a store with these entries can be opened again
 pub record CanReopen (d : Descriptions) (entries : List Entry) : Type 0 where
   pub replays : CanReplayJournal d (journal_with entries)
+  pub deposited : AreDeposited entries
 
 -- exactly the entries that were forced, or all of these, with which it can be opened again
 abbrev pub IsForcedOrReplayed : Descriptions → (receiver forced : ℕ) → List Entry → Areas → Type 0

@@ -1,5 +1,5 @@
 //! Rolls back what a journal leaves open. Which entries that takes, is in specs/Rollbacks.antt.
-ghost use Rattle.std.specs.Prelude.{◌≡◌, ◌+◌, ◌++◌, ℕ, true, List, [], length, IfOk, OnOk, IsErrOf};
+ghost use Rattle.std.specs.Prelude.{◌≡◌, ◌+◌, ◌++◌, List, [], length, IfOk, OnOk, IsErrOf};
 ghost use Rattle.store_model.specs.Disk.{Leaves};
 ghost use Rattle.store_model.specs.Faults.{Rose};
 ghost use Rattle.entry_codec.specs.declared.entries.Entry.{Entry};
@@ -68,21 +68,30 @@ fn prepare<D: Describe>(
 {
     let drafts = restart_drafts(alloc, replay.open_cycles(), who)?;
     let more = numbered(alloc, drafts, entries.len())?;
-    let found = take_all(by, replay, &more)?;
-    if found.is_none() && is_closed(replay) {
-        Ok(more)
-    } else {
-        Err(AllocError) // it doesn't come of a journal that can be replayed
+    take_rolled(by, replay, &more)?;
+    Ok(more)
+}
+
+/// Takes those entries, behind which no commit cycle is open.
+fn take_rolled<D: Describe>(by: &D, replay: &mut Replay, more: &[Entry]) -> Result<(), AllocError>
+    requires keeps { KeepsLengths (D.rules by.now) }
+    ensures left { OnOk result ((before : List Entry) → IsLeftBy (D.rules by.now) before replay.old → IsLeftBy (D.rules by.now) (before ++ more.now) replay.new) }
+    ensures closed { OnOk result (replay.new.cycles ≡ []) }
+{
+    let found = take_all(by, replay, more)?;
+    match found {
+        None => all_closed(replay),
+        Some(_) => Err(AllocError), // it doesn't come of a journal that can be replayed
     }
 }
 
-/// Whether no commit cycle is open.
-fn is_closed(replay: &Replay) -> bool
-    ensures { result ≡ true → replay.now.cycles ≡ [] }
+/// Tells of commit cycles that are open. There are none behind a journal that can be replayed.
+fn all_closed(replay: &Replay) -> Result<(), AllocError>
+    ensures { OnOk result (replay.now.cycles ≡ []) }
 {
     match replay.open_cycles().cycles() {
-        [] => true,
-        [_, ..] => false,
+        [] => Ok(()),
+        [_, ..] => Err(AllocError),
     }
 }
 

@@ -50,7 +50,7 @@ module _ (roots : RootsState) (mid new : Disk) (has : HasRoots roots mid) (first
       later = ends.later;
       images = λ areas since.
           let ending = ends.images areas since in
-          record { left = ending.left; which = ending.which; spells = record { earlier = has.0; roots = roots-left areas since; spelled = ending.spells; replays = ending.reopens.replays } };
+          record { left = ending.left; which = ending.which; spells = record { earlier = has.0; roots = roots-left areas since; spelled = ending.spells; replays = ending.reopens.replays; journaled = ending.reopens.deposited.journaled } };
     }
 
     -- from the store as it was before it was opened
@@ -70,6 +70,7 @@ module _ (roots : RootsState) (mid new : Disk) (has : HasRoots roots mid) (first
         roots = roots-seen;
         spelled = book_spells book entries new (ended.held told) ended.nothing_waits ended.receiver new.seen (λ area. refl);
         replays = ended.reopens.replays;
+        journaled = ended.reopens.deposited.journaled;
       }
 
       -- and a stop leaves that
@@ -82,6 +83,7 @@ module _ (roots : RootsState) (mid new : Disk) (has : HasRoots roots mid) (first
             subst (λ (n : ℕ). SpellEntries n entries areas) ended.receiver
             (subst (λ (l : List Entry). SpellEntries book.chain.first l areas) (take_all book.forced entries (omega (arith, all))) (forced_left book entries new (ended.held told) areas may));
         replays = ended.reopens.replays;
+        journaled = ended.reopens.deposited.journaled;
       }
 
 -- opening alone
@@ -96,6 +98,7 @@ pub ended-restarted : (d : Descriptions) (tells : Type 0) (old new : Disk) (job 
 ended-restarted d tells old new job moment opened s left whole spelled book entries after ended = record {
   before = opened;
   replays = (left-reopens d opened s left whole).replays;
+  deposited = (left-reopens d opened s left whole).deposited;
   spelled = spelled;
   ended = ended;
 }

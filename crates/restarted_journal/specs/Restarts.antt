@@ -11,6 +11,7 @@ use Rattle.journal_model.specs.Catalogue.{Descriptions}
 use Rattle.journal_model.specs.Journal.{CanReplayJournal, restarted}
 use Rattle.journal_model.specs.Rollback.{library_draft, missing_behind, numbered_from}
 use Rattle.journal_replay.specs.Standing.{Standing}
+use Rattle.journaled_entries.specs.Deposited.{AreDeposited}
 use Rattle.receiver_chain.specs.declared.numbers.TheConstants.{FIRST_RECEIVER}
 use Rattle.journal_book.specs.Book.{BookState, Holds}
 use Rattle.journal_book.specs.Kept.{SpellEntries}
@@ -72,5 +73,6 @@ pub record IsEnded (d : Descriptions) (tells : Type 0) (disk : Disk) (job : Opti
 pub record IsRestarted (d : Descriptions) (tells : Type 0) (old new : Disk) (job : Option (List ℕ)) (moment : ℕ) (book : BookState) (entries : List Entry) (s : Standing) : Type 0 where
   pub before : List Entry
   pub replays : CanReplayJournal d (journal_with before)
+  pub deposited : AreDeposited before
   pub spelled : tells → SpellJournal d before old.seen
   pub ended : IsEnded d tells new job moment before book entries s

@@ -1,6 +1,6 @@
 //! Opens the journal of a store and brings it to an end, as a restart does. Which entries that takes, is in specs/Restarts.antt.
-ghost use Rattle.std.specs.Prelude.{◌≡◌, ◌≢◌, ℕ, List, [], IfOk, IsErrOf};
-ghost use Rattle.store_model.specs.Disk.{Areas, Leaves, May};
+ghost use Rattle.std.specs.Prelude.{◌≡◌, ◌≢◌, ◌≤◌, ℕ, List, [], IfOk, IsErrOf};
+ghost use Rattle.store_model.specs.Disk.{Areas, Leaves, May, Stays};
 ghost use Rattle.store_model.specs.Faults.{Rose};
 ghost use Rattle.entry_codec.specs.declared.entries.Entry.{Entry};
 ghost use Rattle.receiver_chain.specs.declared.numbers.TheConstants.{FIRST_RECEIVER};
@@ -51,6 +51,9 @@ pub fn restart_journal<S: Store, D: Describe>(
     ensures not_a_library { IsErrOf result OpenFault.NotALibrary → S.tells → (S.disk store.old).seen ROOT_AREA ≡ [] }
     ensures damaged { (area at : ℕ) → IsErrOf result (OpenFault.Damaged area at) → S.tells → (entries : List Entry) → SpellJournal (D.rules by.now) entries (S.disk store.old).seen → ⊥ }
     ensures something { (area at : ℕ) → IsErrOf result (OpenFault.Damaged area at) → S.tells → (S.disk store.old).seen ROOT_AREA ≢ [] }
+    ensures empty_stays { IsErrOf result OpenFault.NotALibrary → Stays (S.disk store.old) (S.disk store.new) }
+    ensures damaged_stays { (area at : ℕ) → IsErrOf result (OpenFault.Damaged area at) → Stays (S.disk store.old) (S.disk store.new) }
+    ensures faults { (S.disk store.old).faults ≤ (S.disk store.new).faults }
     ensures cause { IsErrOf result OpenFault.StoreFault → Rose (S.disk store.old).faults (S.disk store.new).faults }
 {
     match open_journal(alloc, store, by) {

@@ -1,4 +1,6 @@
+use Rattle.std.proofs.Common.{arith}
 use Rattle.std.proofs.lemmas.Result.{IfOk-weaker}
+use Rattle.journal_book.proofs.Attaching.{rose_after}
 use Rattle.restarted_journal.proofs.Rooted.{ended-left, ended-may, ended-restarted, ended-spelled, stays-may}
 use Rattle.restarted_journal.proofs.restarting.restart_journal.Goals as goal
 
@@ -50,3 +52,24 @@ returns-clause-damaged g c = λ area at is tells entries spells. c.end_opened.en
 
 pub returns-clause-something : goal.returns-clause-something
 returns-clause-something g c = λ area at is tells same. c.end_opened.ensures.never_damaged area at is
+
+pub returns-in-Err-clause-empty_stays : goal.returns-in-Err-clause-empty_stays
+returns-in-Err-clause-empty_stays g c = λ is. c.open_journal.ensures.stays
+
+pub returns-in-Err-clause-damaged_stays : goal.returns-in-Err-clause-damaged_stays
+returns-in-Err-clause-damaged_stays g c = λ area at is. c.open_journal.ensures.stays
+
+pub returns-in-Err-clause-faults : goal.returns-in-Err-clause-faults
+returns-in-Err-clause-faults g c = c.open_journal.ensures.stays.later.faults
+
+pub returns-clause-empty_stays : goal.returns-clause-empty_stays
+returns-clause-empty_stays g c = λ is. absurd (c.end_opened.ensures.never_empty is)
+
+pub returns-clause-damaged_stays : goal.returns-clause-damaged_stays
+returns-clause-damaged_stays g c = λ area at is. absurd (c.end_opened.ensures.never_damaged area at is)
+
+pub returns-clause-faults : goal.returns-clause-faults
+returns-clause-faults g c = omega (arith, c.open_journal.ensures.stays.later.faults, c.end_opened.ensures.roots.later.faults)
+
+pub returns-clause-cause : goal.returns-clause-cause
+returns-clause-cause g c = λ is. rose_after _ _ _ c.open_journal.ensures.stays.later.faults (c.end_opened.ensures.cause is)

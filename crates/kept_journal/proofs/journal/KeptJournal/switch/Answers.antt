@@ -1,4 +1,4 @@
-use Rattle.std.proofs.Common.{◌≡◌, ◌+◌, ◌^◌, ◌<◌, ◌≤◌, ◌++◌, List, length, OnOk, IsErrOf, sym, subst}
+use Rattle.std.proofs.Common.{◌≡◌, ◌⊎◌, ◌+◌, ◌^◌, ◌<◌, ◌≤◌, ◌++◌, List, length, OnOk, IsErrOf, sym, subst}
 use Rattle.store_model.specs.Disk.{Leaves}
 use Rattle.entry_codec.specs.declared.entries.Entry.{Entry}
 use Rattle.entry_codec.specs.declared.kinds.EntryKind.TheVariants.{NextReceiver, PreviousReceiver}
@@ -65,3 +65,18 @@ pub returns-clause-wanting : goal.returns-clause-wanting
 returns-clause-wanting g c =
     subst (λ (v : BookState). IsErrOf c.switch.result NoMemory → g.S.Store.tells → (entries : List Entry) → Holds v entries (g.S.Store.disk c.args.store.now) → Leaves (g.S.Store.disk c.args.store.now) (g.S.Store.disk c.switch.new.store) (IsForcedOrFrom v.chain.first v.forced (length entries) entries)) c.self.view_is
     c.switch.ensures.wanting
+
+pub returns-clause-same_next : goal.returns-clause-same_next
+returns-clause-same_next g c = subst (λ (v : BookState). IsErrOf c.switch.result NoMemory → next_of c.switch.new.self ≡ next_of v) c.self.view_is c.switch.ensures.same_next
+
+pub returns-clause-same_forced : goal.returns-clause-same_forced
+returns-clause-same_forced g c =
+    subst (λ (v : BookState). IsErrOf c.switch.result NoMemory → (c.switch.new.self.forced ≡ v.forced) ⊎ (c.switch.new.self.waiting ≡ 0)) c.self.view_is
+    c.switch.ensures.same_forced
+
+pub returns-clause-same_places : goal.returns-clause-same_places
+returns-clause-same_places g c =
+    subst (λ (v : BookState). IsErrOf c.switch.result NoMemory → v.chain.room ≤ c.switch.new.self.chain.room + 1) c.self.view_is c.switch.ensures.same_places
+
+pub returns-clause-no_longer : goal.returns-clause-no_longer
+returns-clause-no_longer g c = subst (λ (v : BookState). length c.switch.new.self.buffered ≤ length v.buffered) c.self.view_is c.switch.ensures.no_longer
