@@ -1,5 +1,6 @@
 -- The entries of a call, put into the journal, or none.
-use Rattle.std.proofs.Common.{◌≡◌, ◌⊎◌, inl, inr, ◌+◌, ◌<◌, ◌≤◌, ℕ, Bool, true, false, ◌||◌, if◌then◌else◌, List, [], ◌∷◌, ◌++◌, length, append-nil, Result, Ok, Err, OnOk, refl, sym, ◌∙◌, ap, subst, arith}
+use Rattle.std.proofs.Common.{◌≡◌, ◌⊎◌, inl, inr, ◌+◌, ◌<◌, ◌≤◌, ℕ, Bool, true, false, ◌||◌, if◌then◌else◌, List, [], ◌∷◌, ◌++◌, length, append-nil, Result, Ok, Err, OnOk, refl, sym, ◌∙◌, ap, subst}
+use Rattle.std.proofs.Common.{arith}
 use Rattle.std.specs.Prelude.{IsErr}
 use Rattle.std.proofs.lemmas.Bool.{false≢true}
 use Rattle.store_model.specs.Disk.{Disk, Leaves}
@@ -27,11 +28,14 @@ ok-map (Ok a) goes here = goes here
 ok-map (Err e) goes here = here
 
 -- by one call of the journal
-pub put-taken : (tells : Type 0) (old new : Disk) (before after : BookState) (request : Request) (entries : List Entry) (forced : Bool) (put : Result (Unit {0}) StoreFault) → are_put request entries ≡ true → forced ≡ is_forced request entries
+pub put-taken : (tells : Type 0) (old new : Disk) (before after : BookState) (request : Request) (entries : List Entry) (forced : Bool) (put : Result (Unit {0}) StoreFault)
+    → are_put request entries ≡ true → forced ≡ is_forced request entries
     → OnOk put (tells → (all : List Entry) → Holds before all old → Holds after (all ++ entries) new)
     → (tells → (all : List Entry) → Holds before all old → Leaves old new (IsForcedOrFrom before.chain.first before.forced (length (all ++ entries)) (all ++ entries)))
-    → OnOk put (forced ≡ true → after.waiting ≡ 0) → OnOk put ((after.forced ≡ before.forced) ⊎ (after.waiting ≡ 0)) → OnOk put (length after.buffered < MUCH) → OnOk put (next_of after ≡ next_of before + length entries)
-    → after.first ≡ before.first → after.chain.first ≡ before.chain.first → attached_of after.chain ≡ attached_of before.chain → OnOk put (before.chain.room ≤ after.chain.room + 1) → old.faults ≤ new.faults
+    → OnOk put (forced ≡ true → after.waiting ≡ 0) → OnOk put ((after.forced ≡ before.forced) ⊎ (after.waiting ≡ 0)) → OnOk put (length after.buffered < MUCH)
+    → OnOk put (next_of after ≡ next_of before + length entries)
+    → after.first ≡ before.first → after.chain.first ≡ before.chain.first → attached_of after.chain ≡ attached_of before.chain → OnOk put (before.chain.room ≤ after.chain.room + 1)
+    → old.faults ≤ new.faults
     → (IsErr put → Rose old.faults new.faults) → HasTaken tells old new before after request entries put
 put-taken tells old new before after request entries forced put are is kept moments acknowledged whole little next first receiver number places faults cause = record {
   kept = kept;

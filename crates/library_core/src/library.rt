@@ -152,6 +152,7 @@ pub fn call<S: Store>(
     ensures paths { ArePaths library.new.state.files library.new.state.members library.new.paths }
     // A store fault alone ends it.
     ensures alive { result ≢ Reply.StoreFault → library.new.failed ≡ false }
+    ensures fault { result ≡ Reply.StoreFault → library.new.failed ≡ true }
     ensures cause { library.new.failed ≡ true → Rose (S.disk library.old.store).faults (S.disk library.new.store).faults }
     ensures faults { (S.disk library.old.store).faults ≤ (S.disk library.new.store).faults }
     // What a stop leaves within the call, and behind it.
