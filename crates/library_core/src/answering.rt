@@ -105,7 +105,10 @@ fn make_room(journal: &mut KeptJournal, jobs: usize, request: &Request) -> bool
     ensures refused { result ≡ false → needs_memory request.now ≡ true }
 {
     if kinds::wants_memory(request) {
-        reserve_for(journal, jobs).is_ok()
+        match reserve_for(journal, jobs) {
+            Ok(()) => true,
+            Err(_) => false,
+        }
     } else {
         true
     }

@@ -131,7 +131,8 @@ fn begin(contents: &mut Contents, journal: &mut KeptJournal, name: Name) -> Resu
     ensures room { OnOk result (2 * length contents.old.state.jobs + 1 ≤ journal.new.chain.room) }
 {
     reserve_for(journal, contents.jobs_begun())?;
-    contents.begin_job(name)
+    let number = contents.begin_job(name)?;
+    Ok(number)
 }
 
 /// Answers one request of a job, at a time. After a store fault the library has failed: open it again.

@@ -11,7 +11,7 @@ put_call-requires-clause-place g c =
 pub returns-then-are_put : goal.returns-then-are_put
 returns-then-are_put g c =
     let put : are_put c.args.request.now c.args.entries.now ≡ true = search rules in
-    put-taken g.S.Store.tells (g.S.Store.disk c.args.store.now) (g.S.Store.disk c.put_call.new.store) c.args.journal.now c.put_call.new.journal c.args.request.now c.args.entries.now c.is_forced.result
+    put-taken g.S.Store.tells (g.S.Store.disk c.args.store.now) (g.S.Store.disk c.put_call.new.store) c.args.journal.now c.put_call.new.self c.args.request.now c.args.entries.now c.is_forced.result
     c.put_call.result put c.is_forced.ensures
     c.put_call.ensures.kept c.put_call.ensures.moments c.put_call.ensures.acknowledged c.put_call.ensures.whole c.put_call.ensures.little c.put_call.ensures.next c.put_call.ensures.first
     c.put_call.ensures.receiver c.put_call.ensures.number
