@@ -1,7 +1,7 @@
 -- The entries of a call, put into the journal, or none.
 use Rattle.std.proofs.Common.{◌≡◌, ◌⊎◌, inl, inr, ◌+◌, ◌<◌, ◌≤◌, ℕ, Bool, true, false, ◌||◌, if◌then◌else◌, List, [], ◌∷◌, ◌++◌, length, append-nil, Result, Ok, Err, OnOk, refl, sym, ◌∙◌, ap, subst}
 use Rattle.std.proofs.Common.{arith}
-use Rattle.std.specs.Prelude.{IsErr}
+use Rattle.std.specs.Prelude.{IsErr, IsOk}
 use Rattle.std.proofs.lemmas.Bool.{false≢true}
 use Rattle.store_model.specs.Disk.{Disk, Leaves}
 use Rattle.store_model.specs.Faults.{Rose}
@@ -26,6 +26,22 @@ place-there request entries room put enough = omega (arith, one-place request en
 ok-map : {A E P Q : Type 0} (r : Result A E) → (P → Q) → OnOk r P → OnOk r Q
 ok-map (Ok a) goes here = goes here
 ok-map (Err e) goes here = here
+
+-- ---- whether the request was done
+
+pub is-done : {A E : Type 0} (r : Result A E) (a : A) → r ≡ Ok a → IsOk r
+is-done (Ok x) a is = refl
+is-done (Err e) a is = absurd cc
+
+pub is-failed : {A E : Type 0} (r : Result A E) (e : E) → r ≡ Err e → IsErr r
+is-failed (Ok x) e is = absurd cc
+is-failed (Err x) e is = refl
+
+pub not-both : {A E P : Type 0} (r : Result A E) → IsOk r → IsErr r → P
+not-both (Ok x) fine bad = absurd (false≢true bad)
+not-both (Err e) fine bad = absurd (false≢true fine)
+
+-- ---- the entries
 
 -- by one call of the journal
 pub put-taken : (tells : Type 0) (old new : Disk) (before after : BookState) (request : Request) (entries : List Entry) (forced : Bool) (put : Result (Unit {0}) StoreFault)
