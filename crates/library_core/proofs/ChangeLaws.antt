@@ -76,14 +76,14 @@ or-true true b is = refl
 or-true false b is = is
 
 -- each entry stands behind a checkpoint that was never saved
-found-behind : (o : Option ℕ) → ((last : ℕ) → o ≡ Some last → 1 ≤ last) → option_map_or (λ last. nat_lt 0 last) o true ≡ true
+found-behind : (o : Option ℕ) → ((last : ℕ) → o ≡ Some last → 1 ≤ last) → option_map_or (λ (last : ℕ). nat_lt 0 last) o true ≡ true
 found-behind None some = refl
 found-behind (Some last) some = is-positive last (some last refl)
 
 still-needed : (s : State) (number : ℕ) → AreNumbered (s.gone + 1) s.entries → s.checkpoint ≡ 0 → is_needed number s.entries (memory_of s) ≡ true
 still-needed s number numbered unsaved =
-    or-true (number == s.receivers.attached) _
-    (subst (λ (c : ℕ). option_map_or (λ last. nat_lt c last) (last_in number s.entries) true ≡ true) (sym unsaved)
+    or-true (number == s.receivers.attached) (option_map_or (λ (last : ℕ). nat_lt s.checkpoint last) (last_in number s.entries) true)
+    (subst (λ (c : ℕ). option_map_or (λ (last : ℕ). nat_lt c last) (last_in number s.entries) true ≡ true) (sym unsaved)
     (found-behind (last_in number s.entries) (λ last is. let within = found-within number (s.gone + 1) s.entries last numbered is in omega (arith, within.0))))
 
 pub gives_up-none : (s : State) → AreNumbered (s.gone + 1) s.entries → s.checkpoint ≡ 0 → GivesUpNone s.entries (memory_of s)

@@ -61,7 +61,7 @@ behind-front s (Ok c) gone = (c.entries, entries-after s c (gone c refl))
 behind-front s (Err refused) gone = ([], sym (append-nil s.entries))
 
 no-fault : (reply fault : Reply) → is_fault reply ≡ false → is_fault fault ≡ true → reply ≡ fault → ⊥
-no-fault reply fault told is same = false≢true (sym told ∙ ap is_fault same ∙ is)
+no-fault reply fault told is same = false≢true (sym told ∙ ap (λ (x : Reply). is_fault x) same ∙ is)
 
 memory-no_fault : replies.NoMemory ≡ replies.StoreFault → ⊥
 memory-no_fault is = absurd cc
