@@ -73,7 +73,7 @@ returns-clause-put g c =
     c.requires.short new c.put_done-put.new.journal c.perform-done.new.contents.state c.kept_count-before.result c.perform-done.result
     c.put_done-put.result c.perform-done.ensures.step c.kept_count-before.ensures
     c.put_done-put.ensures.taken c.put_done-put.ensures.nothing c.put_done-put.ensures.same_journal
-    (λ bad (P : Disk → Type 0) here. subst (λ (st : g.row.S.Denot). P (g.S.Store.disk st)) (sym (c.put_done-put.ensures.same_store bad)) here))
+    (λ bad. λ (P : Disk → Type 0). λ here. subst (λ (st : g.row.S.Denot). P (g.S.Store.disk st)) (sym (c.put_done-put.ensures.same_store bad)) here))
 
 pub returns-clause-answered : goal.returns-clause-answered
 returns-clause-answered g c =
