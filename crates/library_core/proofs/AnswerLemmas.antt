@@ -1,5 +1,5 @@
 -- From what a request did in memory, and what became of its entries in the journal, to the call: for all requests but CHGJRN.
-use Rattle.std.proofs.Common.{◌≡◌, ◌≤◌, ◌⊎◌, inl, inr, ℕ, ◌+◌, ◌*◌, Bool, true, false, if◌then◌else◌, IsTrue, List, ◌++◌, length, drop, length-append, Result, Ok, Err, OnOk, refl, sym, ◌∙◌, ap, subst}
+use Rattle.std.proofs.Common.{◌≡◌, ◌<◌, ◌≤◌, ◌⊎◌, inl, inr, ℕ, ◌+◌, ◌*◌, Bool, true, false, if◌then◌else◌, IsTrue, List, ◌++◌, length, drop, length-append, Result, Ok, Err, OnOk, refl, sym, ◌∙◌, ap, subst}
 use Rattle.std.proofs.Common.{arith}
 use Rattle.std.specs.Prelude.{IsErr, IsErrOf, IsOk}
 use Rattle.std.proofs.lemmas.Bool.{false≢true}
@@ -87,10 +87,12 @@ module _ (tells : Type 0) (old : Disk) (before roomy : BookState) (s : State) (s
     its-behind = behind-is tells old before roomy s sources job timestamp r running built sound is more plain c done
 
     pub done-wait : EntriesMayWait → AreShort sources → MayWait roomy c.entries
+    unfolding does
     done-wait wait short = wait s c (does c done) roomy short other is.may (behind-book roomy s roomy-of)
 
     module _ (places : PlacesLast) (made : needs_memory r ≡ true → 2 * length s.jobs + 1 ≤ roomy.chain.room) where
       lasts : HasPlaces s c (places_taken r c.entries) roomy.chain.room
+      unfolding does
       lasts = places s c (does c done) roomy.chain.room roomy-of.places made
 
       pub done-place : places_taken r c.entries ≤ roomy.chain.room
@@ -122,6 +124,7 @@ module _ (tells : Type 0) (old : Disk) (before roomy : BookState) (s : State) (s
             }
 
         done-journaled : IsOk put → IsJournaled tells new later (after s c)
+        unfolding does
         done-journaled fine = record {
           book_of = done-book fine;
           may = stay s c (does c done) short (keeps c done).same.2 is.may;

@@ -140,6 +140,7 @@ module _ (tells : Type 0) (old : Disk) (before roomy : BookState) (s : State) (s
     ties-begin = ap (λ (d : Draft). d.kind) beginning_is ∙ ap PreviousReceiver (sym roomy-of.attached)
 
     pub ties-spelled : EntriesAreSpelled → HasSpelling (numbered ending (next_of roomy)) × HasSpelling (numbered beginning (next_of roomy + 1))
+    unfolding does-it
     ties-spelled spelled =
         let all = subst (λ (l : List Entry). AllByRecursion HasSpelling l) (sym ties-are) (spelled s Done does-it tt is.may) in
         (all.0, all.1.0)
@@ -188,6 +189,7 @@ module _ (tells : Type 0) (old : Disk) (before roomy : BookState) (s : State) (s
 
       module _ (places : PlacesLast) (enough : roomy.chain.room ≤ later.chain.room + 1) where
         lasts : HasPlaces s Done 1 roomy.chain.room
+        unfolding does-it
         lasts = places s Done does-it roomy.chain.room roomy-of.places (λ wants. made)
 
         -- there was no memory for it
@@ -267,6 +269,7 @@ module _ (tells : Type 0) (old : Disk) (before roomy : BookState) (s : State) (s
               (switched told s.entries (more_holds before roomy s.entries old more (is.holds told)))
 
           its-put : HasPut tells old new before later s (after s Done) ChangeJournal Behind false
+          unfolding does-it
           its-put = record {
             journaled = λ alive. record { book_of = tied-book; may = stay s Done does-it tt refl is.may; holds = tied-holds };
             moments = tied-moments;

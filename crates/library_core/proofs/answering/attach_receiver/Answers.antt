@@ -1,10 +1,11 @@
-use Rattle.std.proofs.Common.{◌≡◌, ℕ, false, Err, IsTrue, sym, subst}
+use Rattle.std.proofs.Common.{◌≡◌, ℕ, false, Result, Err, IsTrue, sym, subst}
 use Rattle.library_model.specs.declared.replies.Reply.{Reply}
 use Rattle.library_model.specs.declared.requests.Request.TheVariants.{ChangeJournal}
 use Rattle.library_steps.specs.History.{is_running}
 use Rattle.library_steps.specs.Receivers.{attach_plan}
 use Rattle.library_steps.specs.State.{State, job_at, memory_of}
 use Rattle.library_parts.specs.Answers.{Gives}
+use Rattle.library_parts.specs.declared.stop.Stop.{Stop}
 use Rattle.joint_state.specs.Sound.{IsSound}
 use Rattle.library_core.specs.Fronts.{entries_behind}
 use Rattle.library_core.specs.Journaled.{IsJournaled}
@@ -50,7 +51,8 @@ returns-in-Err-clause-put g c = λ sources.
 
 pub returns-in-Err-clause-answered : goal.returns-in-Err-clause-answered
 returns-in-Err-clause-answered g c = λ sources.
-    let refused = subst (λ (s : State). Gives {A = ℕ} (Err c.in-Err.stop) (attach_plan (memory_of s))) c.ready_to_attach.ensures.state c.ready_to_attach.ensures.plan in
+    let given = subst (λ (r : Result ℕ Stop). Gives r (attach_plan (memory_of c.ready_to_attach.new.contents.state))) c.in-Err.is c.ready_to_attach.ensures.plan in
+    let refused = subst (λ (s : State). Gives {A = ℕ} (Err c.in-Err.stop) (attach_plan (memory_of s))) c.ready_to_attach.ensures.state given in
     subst (λ (t : State). HasAnswered sources c.args.contents.now.state t c.ready_to_attach.new.journal
     (record { job = c.args.job; timestamp = c.args.timestamp; request = ChangeJournal; reply = c.reply_of.result }) false) (sym c.ready_to_attach.ensures.state)
     (subst (λ (x : Reply). HasAnswered sources c.args.contents.now.state c.args.contents.now.state c.ready_to_attach.new.journal

@@ -1,4 +1,4 @@
-use Rattle.std.proofs.Common.{◌+◌, []}
+use Rattle.std.proofs.Common.{◌+◌, [], rules}
 use Rattle.std.specs.Prelude.{IsErrOf, IsOk}
 use Rattle.receiver_chain.specs.Chain.{attached_of}
 use Rattle.receiver_chain.specs.declared.fault.ChainFault.TheVariants.{NoMemory, StoreFault}
