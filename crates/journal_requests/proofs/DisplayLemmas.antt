@@ -11,7 +11,8 @@ use Rattle.library_steps.specs.Change.{does, unjournaled}
 use Rattle.library_steps.specs.JournalReads.{display_journal, display_plan}
 use Rattle.library_parts.specs.Answers.{Answers}
 
-pub copied-more : (shown items more : List Entry) (i : ℕ) (e x : Entry) → i < length shown → e ≡ get_or shown i e → x ≡ e → more ≡ items ++ x ∷ [] → items ++ drop i shown ≡ shown → more ++ drop (i + 1) shown ≡ shown
+pub copied-more : (shown items more : List Entry) (i : ℕ) (e x : Entry) → i < length shown → e ≡ get_or shown i e → x ≡ e → more ≡ items ++ x ∷ [] → items ++ drop i shown ≡ shown
+    → more ++ drop (i + 1) shown ≡ shown
 copied-more shown items more i e x below is same added so_far =
     ap (λ xs. xs ++ drop (i + 1) shown) added
     ∙ append_assoc items (x ∷ []) (drop (i + 1) shown)

@@ -28,7 +28,8 @@ attached-answers old new job timestamp number result next previous is_next is_pr
     let m = memory_of old in
     let change = attach_change m job timestamp number in
     let number_of : number ≡ result = is ∙ sym same in
-    let drafts : next ∷ previous ∷ [] ≡ library_draft (author_of m job timestamp) (NextReceiver number) ∷ library_draft (author_of m job timestamp) (PreviousReceiver old.receivers.attached) ∷ [] = (λ i. is_next i ∷ is_previous i ∷ []) in (
+    let drafts : next ∷ previous ∷ [] ≡ library_draft (author_of m job timestamp) (NextReceiver number) ∷ library_draft (author_of m job timestamp) (PreviousReceiver old.receivers.attached) ∷ [] =
+    (λ i. is_next i ∷ is_previous i ∷ []) in (
       change,
       refl,
       ap Receiver number_of,

@@ -1,5 +1,6 @@
 -- From what a request did in memory, and what became of its entries in the journal, to the call: for all requests but CHGJRN.
-use Rattle.std.proofs.Common.{◌≡◌, ◌≤◌, ◌⊎◌, inl, inr, ℕ, ◌+◌, ◌*◌, Bool, true, false, if◌then◌else◌, IsTrue, List, ◌++◌, length, drop, length-append, Result, Ok, Err, OnOk, refl, sym, ◌∙◌, ap, subst, arith}
+use Rattle.std.proofs.Common.{◌≡◌, ◌<◌, ◌≤◌, ◌⊎◌, inl, inr, ℕ, ◌+◌, ◌*◌, Bool, true, false, if◌then◌else◌, IsTrue, List, ◌++◌, length, drop, length-append, Result, Ok, Err, OnOk, refl, sym, ◌∙◌, ap, subst}
+use Rattle.std.proofs.Common.{arith}
 use Rattle.std.specs.Prelude.{IsErr, IsErrOf, IsOk}
 use Rattle.std.proofs.lemmas.Bool.{false≢true}
 use Rattle.std.proofs.lemmas.List.{drop_at}
@@ -86,10 +87,12 @@ module _ (tells : Type 0) (old : Disk) (before roomy : BookState) (s : State) (s
     its-behind = behind-is tells old before roomy s sources job timestamp r running built sound is more plain c done
 
     pub done-wait : EntriesMayWait → AreShort sources → MayWait roomy c.entries
+    unfolding does
     done-wait wait short = wait s c (does c done) roomy short other is.may (behind-book roomy s roomy-of)
 
     module _ (places : PlacesLast) (made : needs_memory r ≡ true → 2 * length s.jobs + 1 ≤ roomy.chain.room) where
       lasts : HasPlaces s c (places_taken r c.entries) roomy.chain.room
+      unfolding does
       lasts = places s c (does c done) roomy.chain.room roomy-of.places made
 
       pub done-place : places_taken r c.entries ≤ roomy.chain.room
@@ -121,6 +124,7 @@ module _ (tells : Type 0) (old : Disk) (before roomy : BookState) (s : State) (s
             }
 
         done-journaled : IsOk put → IsJournaled tells new later (after s c)
+        unfolding does
         done-journaled fine = record {
           book_of = done-book fine;
           may = stay s c (does c done) short (keeps c done).same.2 is.may;
@@ -182,28 +186,34 @@ module _ (tells : Type 0) (old : Disk) (before roomy : BookState) (s : State) (s
       omega (arith, is_count, ap (λ (x : State). length x.entries) leads, ap (λ (l : List Entry). length l) (its-after c done), length-append s.entries c.entries)
   asked-count t count (Err stopped) answers is_count fine = absurd (false≢true fine)
 
-  pub asked-wait : EntriesMayWait → AreShort sources → (t : State) (count : ℕ) (result : Result Reply Stop) → Answers s t result Wanted → count ≡ length s.entries → IsOk result → MayWait roomy (drop count t.entries)
-  asked-wait wait short t count (Ok reply) (c, done, given, leads) is_count fine = subst (λ (l : List Entry). MayWait roomy l) (sym (its-entries t count c done is_count leads)) (done-wait c done wait short)
+  pub asked-wait : EntriesMayWait → AreShort sources → (t : State) (count : ℕ) (result : Result Reply Stop) → Answers s t result Wanted → count ≡ length s.entries → IsOk result
+      → MayWait roomy (drop count t.entries)
+  asked-wait wait short t count (Ok reply) (c, done, given, leads) is_count fine =
+      subst (λ (l : List Entry). MayWait roomy l) (sym (its-entries t count c done is_count leads)) (done-wait c done wait short)
   asked-wait wait short t count (Err stopped) answers is_count fine = absurd (false≢true fine)
 
   module _ (places : PlacesLast) (made : needs_memory r ≡ true → 2 * length s.jobs + 1 ≤ roomy.chain.room) where
-    pub asked-place : (t : State) (count : ℕ) (result : Result Reply Stop) → Answers s t result Wanted → count ≡ length s.entries → IsOk result → places_taken r (drop count t.entries) ≤ roomy.chain.room
+    pub asked-place : (t : State) (count : ℕ) (result : Result Reply Stop) → Answers s t result Wanted → count ≡ length s.entries → IsOk result
+        → places_taken r (drop count t.entries) ≤ roomy.chain.room
     asked-place t count (Ok reply) (c, done, given, leads) is_count fine =
         subst (λ (l : List Entry). places_taken r l ≤ roomy.chain.room) (sym (its-entries t count c done is_count leads)) (done-place c done places made)
     asked-place t count (Err stopped) answers is_count fine = absurd (false≢true fine)
 
     module _ (stay : DepositsStay) (short : AreShort sources) (new : Disk) (later : BookState) where
-      its-taken : (t : State) (count : ℕ) (c : Change) (done : Wanted ≡ Ok c) (put : Result (Unit {0}) StoreFault) → count ≡ length s.entries → t ≡ after s c → HasTaken tells old new roomy later r (drop count t.entries) put
+      its-taken : (t : State) (count : ℕ) (c : Change) (done : Wanted ≡ Ok c) (put : Result (Unit {0}) StoreFault) → count ≡ length s.entries → t ≡ after s c
+          → HasTaken tells old new roomy later r (drop count t.entries) put
           → HasTaken tells old new roomy later r c.entries put
       its-taken t count c done put is_count leads taken = subst (λ (l : List Entry). HasTaken tells old new roomy later r l put) (its-entries t count c done is_count leads) taken
 
       stopped-later : (t : State) → t ≡ s → later ≡ roomy → ((P : Disk → Type 0) → P old → P new) → HasPut tells old new before later s t r Behind false
       stopped-later t same book disk =
           subst (λ (u : State). HasPut tells old new before later s u r Behind false) (sym same)
-          (subst (λ (b : BookState). HasPut tells old new before b s s r Behind false) (sym book) (disk (λ d. HasPut tells old d before roomy s s r Behind false) (stopped-put tells old before roomy s sources job timestamp r running built sound is more plain)))
+          (subst (λ (b : BookState). HasPut tells old new before b s s r Behind false) (sym book) (disk (λ d. HasPut tells old d before roomy s s r Behind false)
+          (stopped-put tells old before roomy s sources job timestamp r running built sound is more plain)))
 
       pub ended-put : (t : State) (count : ℕ) (result : Result Reply Stop) (put : Result (Unit {0}) StoreFault) → Answers s t result Wanted → count ≡ length s.entries
-          → (IsOk result → HasTaken tells old new roomy later r (drop count t.entries) put) → (IsErr result → IsOk put) → (IsErr result → later ≡ roomy) → (IsErr result → (P : Disk → Type 0) → P old → P new)
+          → (IsOk result → HasTaken tells old new roomy later r (drop count t.entries) put) → (IsErr result → IsOk put) → (IsErr result → later ≡ roomy)
+          → (IsErr result → (P : Disk → Type 0) → P old → P new)
           → HasPut tells old new before later s t r Behind (answer_given put result).1
       ended-put t count (Ok reply) (Ok nothing) (c, done, given, leads) is_count taken nothing_called same_book same_disk =
           subst (λ (u : State). HasPut tells old new before later s u r Behind false) (sym leads)
@@ -215,8 +225,10 @@ module _ (tells : Type 0) (old : Disk) (before roomy : BookState) (s : State) (s
       ended-put t count (Err (stop.Refused reply)) (Ok nothing) (same, refused) is_count taken nothing_called same_book same_disk = stopped-later t same (same_book refl) (same_disk refl)
       ended-put t count (Err stopped) (Err fault) answers is_count taken nothing_called same_book same_disk = absurd (false≢true (nothing_called refl))
 
-      pub ended-answered : AnswersStaySound → (t : State) (count : ℕ) (result : Result Reply Stop) (put : Result (Unit {0}) StoreFault) → Answers s t result Wanted → (IsErrOf result stop.NoMemory → IsTrue (needs_memory r))
-          → count ≡ length s.entries → (IsOk result → HasTaken tells old new roomy later r (drop count t.entries) put) → (IsErr result → IsOk put) → (IsErr result → later ≡ roomy) → HasAnswered sources s t later (As (answer_given put result).0) (answer_given put result).1
+      pub ended-answered : AnswersStaySound → (t : State) (count : ℕ) (result : Result Reply Stop) (put : Result (Unit {0}) StoreFault) → Answers s t result Wanted
+          → (IsErrOf result stop.NoMemory → IsTrue (needs_memory r))
+          → count ≡ length s.entries → (IsOk result → HasTaken tells old new roomy later r (drop count t.entries) put) → (IsErr result → IsOk put) → (IsErr result → later ≡ roomy)
+          → HasAnswered sources s t later (As (answer_given put result).0) (answer_given put result).1
       ended-answered stays t count (Ok reply) (Ok nothing) (c, done, given, leads) needs is_count taken nothing_called same_book =
           subst (λ (u : State). HasAnswered sources s u later (As reply) false) (sym leads)
           (subst (λ (x : Reply). HasAnswered sources s (after s c) later (As x) false) given
@@ -227,8 +239,10 @@ module _ (tells : Type 0) (old : Disk) (before roomy : BookState) (s : State) (s
           (fault-answered tells old before roomy s sources job timestamp r running built sound is more plain c done stays later)
       ended-answered stays t count (Err stop.NoMemory) (Ok nothing) same needs is_count taken nothing_called same_book =
           subst (λ (u : State). HasAnswered sources s u later (As replies.NoMemory) false) (sym same)
-          (subst (λ (b : BookState). HasAnswered sources s s b (As replies.NoMemory) false) (sym (same_book refl)) (no_memory-answered tells old before roomy s sources job timestamp r running built sound is more plain roomy (needs refl)))
+          (subst (λ (b : BookState). HasAnswered sources s s b (As replies.NoMemory) false) (sym (same_book refl))
+          (no_memory-answered tells old before roomy s sources job timestamp r running built sound is more plain roomy (needs refl)))
       ended-answered stays t count (Err (stop.Refused reply)) (Ok nothing) (same, refused) needs is_count taken nothing_called same_book =
           subst (λ (u : State). HasAnswered sources s u later (As reply) false) (sym same)
-          (subst (λ (b : BookState). HasAnswered sources s s b (As reply) false) (sym (same_book refl)) (refused-answered tells old before roomy s sources job timestamp r running built sound is more plain roomy reply refused))
+          (subst (λ (b : BookState). HasAnswered sources s s b (As reply) false) (sym (same_book refl)) (refused-answered tells old before roomy s sources job timestamp r running built sound is more
+          plain roomy reply refused))
       ended-answered stays t count (Err stopped) (Err fault) answers needs is_count taken nothing_called same_book = absurd (false≢true (nothing_called refl))

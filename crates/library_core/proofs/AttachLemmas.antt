@@ -47,18 +47,22 @@ does-plain effect (Err reply) m c is plain = absurd cc
 
 attach-plain : (sources : List NamedSource) (s : State) (job timestamp : ℕ) (c : Change) → change sources s.entries (memory_of s) job timestamp ChangeJournal ≡ Ok c → IsPlain (memory_of s) c
 unfolding change
-attach-plain sources s job timestamp c is = does-plain (attach_change (memory_of s) job timestamp) (attach_plan (memory_of s)) (memory_of s) c is (λ number. record { gone = refl; checkpoint = refl; told = refl })
+attach-plain sources s job timestamp c is =
+    does-plain (attach_change (memory_of s) job timestamp) (attach_plan (memory_of s)) (memory_of s) c is (λ number. record { gone = refl; checkpoint = refl; told = refl })
 
-attach-done : (sources : List NamedSource) (s : State) (job timestamp number : ℕ) → attach_plan (memory_of s) ≡ Ok number → change sources s.entries (memory_of s) job timestamp ChangeJournal ≡ Ok (attach_change (memory_of s) job timestamp number)
+attach-done : (sources : List NamedSource) (s : State) (job timestamp number : ℕ) → attach_plan (memory_of s) ≡ Ok number
+    → change sources s.entries (memory_of s) job timestamp ChangeJournal ≡ Ok (attach_change (memory_of s) job timestamp number)
 unfolding change
 attach-done sources s job timestamp number plan = ap (λ (p : Result ℕ Reply). does (attach_change (memory_of s) job timestamp) p) plan
 
-attach-refused : (sources : List NamedSource) (s : State) (job timestamp : ℕ) (reply : Reply) → attach_plan (memory_of s) ≡ Err reply → change sources s.entries (memory_of s) job timestamp ChangeJournal ≡ Err reply
+attach-refused : (sources : List NamedSource) (s : State) (job timestamp : ℕ) (reply : Reply) → attach_plan (memory_of s) ≡ Err reply
+    → change sources s.entries (memory_of s) job timestamp ChangeJournal ≡ Err reply
 unfolding change
 attach-refused sources s job timestamp reply plan = ap (λ (p : Result ℕ Reply). does (attach_change (memory_of s) job timestamp) p) plan
 
 -- room that was made before
-pub room-put : (tells : Type 0) (old new : Disk) (before roomy after : BookState) (s t : State) (r : Request) (behind : List Entry) (failed : Bool) → HasMoreRoom before roomy → HasPut tells old new roomy after s t r behind failed
+pub room-put : (tells : Type 0) (old new : Disk) (before roomy after : BookState) (s t : State) (r : Request) (behind : List Entry) (failed : Bool) → HasMoreRoom before roomy
+    → HasPut tells old new roomy after s t r behind failed
     → HasPut tells old new before after s t r behind failed
 room-put tells old new before roomy after s t r behind failed more put = record {
   journaled = put.journaled;
@@ -108,7 +112,8 @@ module _ (tells : Type 0) (old : Disk) (before roomy : BookState) (s : State) (s
   pub unready-answered : (stopped : Stop) → Gives {A = ℕ} (Err stopped) (attach_plan (memory_of s)) → HasAnswered sources s s roomy (As (reply_of (Err stopped))) false
   unready-answered stop.NoMemory plan = no_memory-answered tells old before roomy s sources job timestamp ChangeJournal running refl sound is more (attach-plain sources s job timestamp) roomy refl
   unready-answered (stop.Refused reply) plan =
-      refused-answered tells old before roomy s sources job timestamp ChangeJournal running refl sound is more (attach-plain sources s job timestamp) roomy reply (attach-refused sources s job timestamp reply plan)
+      refused-answered tells old before roomy s sources job timestamp ChangeJournal running refl sound is more (attach-plain sources s job timestamp) roomy reply
+      (attach-refused sources s job timestamp reply plan)
 
   module _ (number : ℕ) (plan : attach_plan (memory_of s) ≡ Ok number) (next : number ≡ s.receivers.attached + 1) (few : number ≤ LAST_RECEIVER) (left : (memory_of s).last_entry ≤ LAST_SEQUENCE)
       (made : 2 * length s.jobs + 1 ≤ roomy.chain.room) (ending beginning : Draft) (ending_is : ending ≡ library_draft (author_of (memory_of s) job timestamp) (NextReceiver number))
@@ -135,6 +140,7 @@ module _ (tells : Type 0) (old : Disk) (before roomy : BookState) (s : State) (s
     ties-begin = ap (λ (d : Draft). d.kind) beginning_is ∙ ap PreviousReceiver (sym roomy-of.attached)
 
     pub ties-spelled : EntriesAreSpelled → HasSpelling (numbered ending (next_of roomy)) × HasSpelling (numbered beginning (next_of roomy + 1))
+    unfolding does-it
     ties-spelled spelled =
         let all = subst (λ (l : List Entry). AllByRecursion HasSpelling l) (sym ties-are) (spelled s Done does-it tt is.may) in
         (all.0, all.1.0)
@@ -154,7 +160,8 @@ module _ (tells : Type 0) (old : Disk) (before roomy : BookState) (s : State) (s
         ∙ ap (λ (l : List Entry). s.entries ++ l) (sym ties-are)
 
     module _ (new : Disk) (later : BookState)
-        (exactly : tells → (entries : List Entry) → Holds roomy entries old → Leaves old new (IsForcedOrFrom roomy.chain.first roomy.forced (length entries) (entries ++ tied_by ending beginning (next_of roomy))))
+        (exactly : tells → (entries : List Entry) → Holds roomy entries old → Leaves old new (IsForcedOrFrom roomy.chain.first roomy.forced (length entries)
+        (entries ++ tied_by ending beginning (next_of roomy))))
         (first : later.first ≡ roomy.first) (receiver : later.chain.first ≡ roomy.chain.first) (no_longer : length later.buffered ≤ length roomy.buffered) (faults : old.faults ≤ new.faults) where
       -- whatever came of it
       tied-moments : tells → Leaves old new (IsForcedOrFrom before.chain.first before.forced (whole_from ChangeJournal s.entries Behind) Behind)
@@ -182,6 +189,7 @@ module _ (tells : Type 0) (old : Disk) (before roomy : BookState) (s : State) (s
 
       module _ (places : PlacesLast) (enough : roomy.chain.room ≤ later.chain.room + 1) where
         lasts : HasPlaces s Done 1 roomy.chain.room
+        unfolding does-it
         lasts = places s Done does-it roomy.chain.room roomy-of.places (λ wants. made)
 
         -- there was no memory for it
@@ -257,15 +265,18 @@ module _ (tells : Type 0) (old : Disk) (before roomy : BookState) (s : State) (s
 
           tied-holds : tells → Holds later (after s Done).entries new
           tied-holds told =
-              subst (λ (l : List Entry). Holds later l new) (ap (λ (l : List Entry). s.entries ++ l) ties-are ∙ sym ties-after) (switched told s.entries (more_holds before roomy s.entries old more (is.holds told)))
+              subst (λ (l : List Entry). Holds later l new) (ap (λ (l : List Entry). s.entries ++ l) ties-are ∙ sym ties-after)
+              (switched told s.entries (more_holds before roomy s.entries old more (is.holds told)))
 
           its-put : HasPut tells old new before later s (after s Done) ChangeJournal Behind false
+          unfolding does-it
           its-put = record {
             journaled = λ alive. record { book_of = tied-book; may = stay s Done does-it tt refl is.may; holds = tied-holds };
             moments = tied-moments;
             still = λ alive same told.
                 still-of old new before.chain.first before.forced ChangeJournal s.entries Behind (after s Done).entries
-                (behind-is tells old before roomy s sources job timestamp ChangeJournal running refl sound is more (attach-plain sources s job timestamp) Done done ∙ sym ties-after) same (tied-moments told);
+                (behind-is tells old before roomy s sources job timestamp ChangeJournal running refl sound is more (attach-plain sources s job timestamp) Done done ∙ sym ties-after) same
+                (tied-moments told);
             least = λ alive. tied-least;
             whole = λ alive. inr tied-whole;
             receiver = receiver ∙ more.receiver;

@@ -22,7 +22,8 @@ use Rattle.library_core.proofs.RunLemmas.{runs-on}
 use Rattle.library_core.proofs.StepLemmas.{Leaves, change-leaves}
 
 -- the answer may be given where the memory has given it
-pub may-answer : (sources : List NamedSource) (old new : State) (job timestamp : ℕ) (r : Request) (result : Result Reply Stop) → Answers old new result (change sources old.entries (memory_of old) job timestamp r)
+pub may-answer : (sources : List NamedSource) (old new : State) (job timestamp : ℕ) (r : Request) (result : Result Reply Stop)
+    → Answers old new result (change sources old.entries (memory_of old) job timestamp r)
     → (IsErrOf result stop.NoMemory → IsTrue (needs_memory r)) → MayAnswer sources old job timestamp r (reply_of result) new
 may-answer sources old new job timestamp r (Ok reply) (c, done, given, leads) needs =
     inl (sym (ap (changed old) done ∙ (λ i. (sym leads i, given i))))
@@ -45,7 +46,8 @@ module _ (sources : List NamedSource) (old new : State) (job timestamp : ℕ) (r
   left : (c : Change) → change sources old.entries (memory_of old) job timestamp r ≡ Ok c → Leaves job r (memory_of old) c
   left c done = IfOk-at_ok (Leaves job r (memory_of old)) done (change-leaves sources old.entries (memory_of old) job timestamp running r built).holds
 
-  pub runs-answered : (result : Result Reply Stop) → Answers old new result (change sources old.entries (memory_of old) job timestamp r) → (IsErrOf result stop.NoMemory → IsTrue (needs_memory r)) → (other : ℕ)
+  pub runs-answered : (result : Result Reply Stop) → Answers old new result (change sources old.entries (memory_of old) job timestamp r) → (IsErrOf result stop.NoMemory → IsTrue (needs_memory r))
+      → (other : ℕ)
       → is_running (job_at other new.jobs) ≡ runs_after job r old.jobs other
   runs-answered (Ok reply) (c, done, given, leads) needs other = ap (λ (t : State). is_running (job_at other t.jobs)) leads ∙ (left c done).runs other
   runs-answered (Err stop.NoMemory) same needs other = ap (λ (t : State). is_running (job_at other t.jobs)) same ∙ sym (runs-on job r old.jobs other (needs-no_end r (needs refl)))

@@ -11,7 +11,8 @@ use Rattle.library_core.specs.Stands.{IsReady}
 use Rattle.library_core.proofs.RunLemmas.{runs-on}
 
 -- a job that may make a call may make one after a call that ends no job
-pub IsReady-on : {S : Type 0} (job other : ℕ) (r : Request) (old new : LibraryOver S) → IsReady other old → is_end_job r ≡ false → new.failed ≡ false → ((n : ℕ) → is_running (job_at n new.state.jobs) ≡ runs_after job r old.state.jobs n) → IsSound new.state → IsReady other new
+pub IsReady-on : {S : Type 0} (job other : ℕ) (r : Request) (old new : LibraryOver S) → IsReady other old → is_end_job r ≡ false → new.failed ≡ false
+    → ((n : ℕ) → is_running (job_at n new.state.jobs) ≡ runs_after job r old.state.jobs n) → IsSound new.state → IsReady other new
 IsReady-on job other r old new ready goes_on alive runs sound = record {
   alive = alive;
   running = rw (runs other, runs-on job r old.state.jobs other goes_on) ready.running;

@@ -2,6 +2,7 @@
 use Rattle.std.proofs.Common.{◌≡◌, ◌≤◌, ℕ, ◌+◌, Bool, true, false, not, ◌||◌, ◌==◌, nat_lt, List, [], ◌∷◌, Option, Some, None, Result, Ok, Err, refl, sym, ◌∙◌, subst, arith}
 use Rattle.std.specs.Option.{option_map_or}
 use Rattle.std.proofs.lemmas.Bool.{false≢true}
+use Rattle.std.proofs.lemmas.Bool.Decides.{nat_tests}
 use Rattle.entry_codec.specs.declared.entries.Entry.{Entry}
 use Rattle.journal_model.specs.Journal.{AreNumbered}
 use Rattle.journal_model.specs.Replay.{before_of}
@@ -12,9 +13,13 @@ use Rattle.library_model.specs.declared.replies.Reply.TheVariants.{NoSuchName, S
 use Rattle.library_model.specs.declared.replies.Missing.TheVariants.{Receiver}
 use Rattle.library_model.specs.declared.requests.DeleteReceiver.{DeleteReceiver as DeleteForm}
 use Rattle.library_model.specs.declared.requests.Request.{Request}
-use Rattle.library_model.specs.declared.requests.Request.TheVariants.{CreatePhysicalFile, CreateLogicalFile, DeleteFile, AddMember, ClearMember, ReorganizeMember, StartJournaling, EndJournaling, ChangeJournal, DeleteReceiver, Checkpoint, DisplayJournal, ApplyChanges, RemoveChanges, StartCommitment, EndCommitment, Commit, Rollback, OpenFile, CloseFile, SetLowerLimit, SetGreaterThan, Read, ReadPrior, ReadEqual, ReadPriorEqual, Chain, Write, Update, Delete, Unlock, EndJob}
+use Rattle.library_model.specs.declared.requests.Request.TheVariants.{CreatePhysicalFile, CreateLogicalFile, DeleteFile, AddMember, ClearMember, ReorganizeMember, StartJournaling, EndJournaling}
+use Rattle.library_model.specs.declared.requests.Request.TheVariants.{ChangeJournal, DeleteReceiver, Checkpoint, DisplayJournal, ApplyChanges, RemoveChanges, StartCommitment, EndCommitment, Commit}
+use Rattle.library_model.specs.declared.requests.Request.TheVariants.{Rollback, OpenFile, CloseFile, SetLowerLimit, SetGreaterThan, Read, ReadPrior, ReadEqual, ReadPriorEqual, Chain, Write, Update}
+use Rattle.library_model.specs.declared.requests.Request.TheVariants.{Delete, Unlock, EndJob}
 use Rattle.library_model.specs.declared.sources.NamedSource.{NamedSource}
 use Rattle.library_steps.specs.Change.{Change, does}
+use Rattle.library_steps.specs.ChangeRecord.{delete_change, update_change}
 use Rattle.library_steps.specs.Commitment.{changes_of, taken_back}
 use Rattle.library_steps.specs.EndJob.{end_change}
 use Rattle.lawful_states.proofs.NumberLemmas.{found-within}
@@ -23,6 +28,7 @@ use Rattle.library_steps.specs.Refusals.{refuse_if}
 use Rattle.library_steps.specs.SlotChange.{NewSlot, change_made, cycle_for, slot_changed, touched, with_slot, with_undo}
 use Rattle.library_steps.specs.State.{CycleState, Memory, State, job_of, memory_of, with_status}
 use Rattle.library_steps.specs.Step.{change}
+use Rattle.library_steps.specs.WriteRecord.{write_call, write_change}
 use Rattle.deposited_entries.specs.Deposits.{switches}
 use Rattle.library_core.specs.Laws.{is_fault}
 use Rattle.library_core.proofs.ResultLemmas.{bind-ok, not-refused}
@@ -45,7 +51,8 @@ taken-same (undo ∷ undos) m = taken-same undos (with_slot undo.member (undo.ch
 
 -- a slot that changes
 slot-same : (job : ℕ) (new : NewSlot) (m : Memory) → Same (slot_changed job new m) m
-slot-same job new m = undo-same new.opened.commit job (change_made m (job_of job m) new) (cycle_for m (job_of job m)) (with_status new.opened.member touched (with_slot new.opened.member new.rrn new.slot m))
+slot-same job new m =
+    undo-same new.opened.commit job (change_made m (job_of job m) new) (cycle_for m (job_of job m)) (with_status new.opened.member touched (with_slot new.opened.member new.rrn new.slot m))
 
 does-keeps : {A : Type 0} (effect : A → Change) (plan : Result A Reply) (m : Memory) (c : Change) → does effect plan ≡ Ok c → ((a : A) → Keeps m (effect a)) → Keeps m c
 does-keeps effect (Ok a) m c is keeps = let same : effect a ≡ c = cc in subst (λ (x : Change). Keeps m x) same (keeps a)
@@ -69,14 +76,14 @@ or-true true b is = refl
 or-true false b is = is
 
 -- each entry stands behind a checkpoint that was never saved
-found-behind : (o : Option ℕ) → ((last : ℕ) → o ≡ Some last → 1 ≤ last) → option_map_or (λ last. nat_lt 0 last) o true ≡ true
+found-behind : (o : Option ℕ) → ((last : ℕ) → o ≡ Some last → 1 ≤ last) → option_map_or (λ (last : ℕ). nat_lt 0 last) o true ≡ true
 found-behind None some = refl
 found-behind (Some last) some = is-positive last (some last refl)
 
 still-needed : (s : State) (number : ℕ) → AreNumbered (s.gone + 1) s.entries → s.checkpoint ≡ 0 → is_needed number s.entries (memory_of s) ≡ true
 still-needed s number numbered unsaved =
-    or-true (number == s.receivers.attached) _
-    (subst (λ (c : ℕ). option_map_or (λ last. nat_lt c last) (last_in number s.entries) true ≡ true) (sym unsaved)
+    or-true (number == s.receivers.attached) (option_map_or (λ (last : ℕ). nat_lt s.checkpoint last) (last_in number s.entries) true)
+    (subst (λ (c : ℕ). option_map_or (λ (last : ℕ). nat_lt c last) (last_in number s.entries) true ≡ true) (sym unsaved)
     (found-behind (last_in number s.entries) (λ last is. let within = found-within number (s.gone + 1) s.entries last numbered is in omega (arith, within.0))))
 
 pub gives_up-none : (s : State) → AreNumbered (s.gone + 1) s.entries → s.checkpoint ≡ 0 → GivesUpNone s.entries (memory_of s)
@@ -89,7 +96,8 @@ gives_up-none s numbered unsaved args n h =
 
 -- ---- all requests
 
-pub change-keeps : (sources : List NamedSource) (entries : List Entry) (m : Memory) (job timestamp : ℕ) (request : Request) (c : Change) → switches request ≡ false → is_built request ≡ true → GivesUpNone entries m
+pub change-keeps : (sources : List NamedSource) (entries : List Entry) (m : Memory) (job timestamp : ℕ) (request : Request) (c : Change) → switches request ≡ false → is_built request ≡ true
+    → GivesUpNone entries m
     → change sources entries m job timestamp request ≡ Ok c → Keeps m c
 unfolding change
 change-keeps sources entries m job timestamp (CreatePhysicalFile args) c other built none is = does-keeps _ _ m c is (λ a. record { same = (refl, refl, refl); told = refl })
@@ -119,9 +127,10 @@ change-keeps sources entries m job timestamp (ReadPrior args) c other built none
 change-keeps sources entries m job timestamp (ReadEqual args) c other built none is = does-keeps _ _ m c is (λ a. record { same = (refl, refl, refl); told = refl })
 change-keeps sources entries m job timestamp (ReadPriorEqual args) c other built none is = does-keeps _ _ m c is (λ a. record { same = (refl, refl, refl); told = refl })
 change-keeps sources entries m job timestamp (Chain args) c other built none is = does-keeps _ _ m c is (λ a. record { same = (refl, refl, refl); told = refl })
-change-keeps sources entries m job timestamp (Write args) c other built none is = does-keeps _ _ m c is (λ new. record { same = slot-same job new m; told = refl })
-change-keeps sources entries m job timestamp (Update args) c other built none is = does-keeps _ _ m c is (λ new. record { same = slot-same job new m; told = refl })
-change-keeps sources entries m job timestamp (Delete args) c other built none is = does-keeps _ _ m c is (λ new. record { same = slot-same job new m; told = refl })
+change-keeps sources entries m job timestamp (Write args) c other built none is =
+    does-keeps (write_change m job timestamp (write_call args.record_number)) _ m c is (λ new. record { same = slot-same job new m; told = refl })
+change-keeps sources entries m job timestamp (Update args) c other built none is = does-keeps (update_change m job timestamp) _ m c is (λ new. record { same = slot-same job new m; told = refl })
+change-keeps sources entries m job timestamp (Delete args) c other built none is = does-keeps (delete_change m job timestamp) _ m c is (λ new. record { same = slot-same job new m; told = refl })
 change-keeps sources entries m job timestamp (Unlock args) c other built none is = does-keeps _ _ m c is (λ a. record { same = (refl, refl, refl); told = refl })
 change-keeps sources entries m job timestamp (EndJob args) c other built none is =
     let same : end_change m job timestamp ≡ c = cc in subst (λ (x : Change). Keeps m x) same (record { same = taken-same (changes_of (job_of job m).cycle) m; told = refl })

@@ -50,7 +50,8 @@ renumbering-spares m job timestamp kind change status = spares-all m.jobs
 
 pub clear_member-spares : (m : Memory) (job timestamp : ℕ) (args : FileMember) → Holds (clear_member m job timestamp args) (SparesIn m)
 clear_member-spares m job timestamp args =
-    does-holds (renumbering m job timestamp MemberCleared cleared) (empty_plan m args) (SparesIn m) (each-holds (empty_plan m args) _ (λ status. renumbering-spares m job timestamp MemberCleared cleared status))
+    does-holds (renumbering m job timestamp MemberCleared cleared) (empty_plan m args) (SparesIn m) (each-holds (empty_plan m args) _
+    (λ status. renumbering-spares m job timestamp MemberCleared cleared status))
 
 pub reorganize_member-spares : (m : Memory) (job timestamp : ℕ) (args : FileMember) → Holds (reorganize_member m job timestamp args) (SparesIn m)
 reorganize_member-spares m job timestamp args =

@@ -42,11 +42,13 @@ pub behind-book : (book : BookState) (s : State) → IsBookOf book s → IsBehin
 behind-book book s of = record { next = of.next; little = of.little }
 
 -- a stop leaves exactly the entries that were forced
-pub journal-left : (tells : Type 0) (disk : Disk) (book : BookState) (s : State) → IsJournaled tells disk book s → tells → (areas : Areas) → May disk areas → SpellEntries book.chain.first (take book.forced s.entries) areas
+pub journal-left : (tells : Type 0) (disk : Disk) (book : BookState) (s : State) → IsJournaled tells disk book s → tells → (areas : Areas) → May disk areas
+    → SpellEntries book.chain.first (take book.forced s.entries) areas
 journal-left tells disk book s is told areas may = forced_left book s.entries disk (is.holds told) areas may
 
 -- also of a journal that goes on behind these entries
-pub moment-still : (book : BookState) (entries more behind : List Entry) (whole : ℕ) (disk : Disk) → Holds book entries disk → behind ≡ entries ++ more → Leaves disk disk (IsForcedOrFrom book.chain.first book.forced whole behind)
+pub moment-still : (book : BookState) (entries more behind : List Entry) (whole : ℕ) (disk : Disk) → Holds book entries disk → behind ≡ entries ++ more
+    → Leaves disk disk (IsForcedOrFrom book.chain.first book.forced whole behind)
 moment-still book entries more behind whole disk holds is =
     let count = all_counted book entries disk holds in
     let within : book.forced ≤ length entries = omega (arith, count) in
@@ -86,7 +88,8 @@ more-journaled tells disk old new s more is = record {
 
 -- ---- a job that begins
 
-pub begun-journaled : DepositsBegin → PlacesBegin → (tells : Type 0) (disk : Disk) (old new : BookState) (s : State) (name : List ℕ) → length s.jobs ≤ 4294967294 → HasMoreRoom old new → 2 * length s.jobs + 1 ≤ new.chain.room
+pub begun-journaled : DepositsBegin → PlacesBegin → (tells : Type 0) (disk : Disk) (old new : BookState) (s : State) (name : List ℕ) → length s.jobs ≤ 4294967294 → HasMoreRoom old new
+    → 2 * length s.jobs + 1 ≤ new.chain.room
     → IsJournaled tells disk old s → IsJournaled tells disk new (begun s (name ∷ []))
 begun-journaled begin places tells disk old new s name few more made is =
     let of = more-book old new s more is.book_of in
@@ -104,7 +107,8 @@ begun-journaled begin places tells disk old new s name few more made is =
     }
 
 -- by whether there was memory for it
-pub begun-by : {E : Type 0} → DepositsBegin → PlacesBegin → (tells : Type 0) (disk : Disk) (old new : BookState) (s t : State) (name : List ℕ) (r : Result ℕ E) → length s.jobs ≤ 4294967294 → HasMoreRoom old new
+pub begun-by : {E : Type 0} → DepositsBegin → PlacesBegin → (tells : Type 0) (disk : Disk) (old new : BookState) (s t : State) (name : List ℕ) (r : Result ℕ E) → length s.jobs ≤ 4294967294
+    → HasMoreRoom old new
     → OnOk r (2 * length s.jobs + 1 ≤ new.chain.room) → OnOk r (t ≡ begun s (name ∷ [])) → OnErr r (t ≡ s) → IsJournaled tells disk old s → IsJournaled tells disk new t
 begun-by begin places tells disk old new s t name (Ok n) few more made is_begun unchanged is =
     subst (λ (u : State). IsJournaled tells disk new u) (sym is_begun) (begun-journaled begin places tells disk old new s name few more made is)

@@ -10,6 +10,12 @@ pub mod StepLemmas
 pub mod CallLemmas
 pub mod CallerLemmas
 pub mod ChangeLaws
+pub mod RefusalLemmas
+pub mod RefusedParts
+pub mod RefusedFiles
+pub mod RefusedJournal
+pub mod RefusedRecords
+pub mod RefusalLaws
 pub mod PlaceLemmas
 pub mod JournalLemmas
 pub mod OutcomeLemmas

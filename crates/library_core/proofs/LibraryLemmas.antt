@@ -45,6 +45,13 @@ module _ {S : Type 0} (tells : Type 0) (disk : S → Disk) (sources : List Named
   pub call-alive : call.reply ≢ StoreFault → new.failed ≡ false
   call-alive = alive-by new.failed refl
 
+  fault-by : (b : Bool) → new.failed ≡ b → call.reply ≡ StoreFault → new.failed ≡ true
+  fault-by false alive is = absurd (called.answered.other alive is)
+  fault-by true failed is = failed
+
+  pub call-fault : call.reply ≡ StoreFault → new.failed ≡ true
+  call-fault = fault-by new.failed refl
+
   pub call-left : new.failed ≡ false → tells → (areas : Areas) → May (disk new.store) areas → SpellEntries new.book.chain.first (take new.book.forced new.state.entries) areas
   call-left alive = library-left tells disk new (called.put.journaled alive)
 

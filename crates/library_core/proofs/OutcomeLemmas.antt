@@ -30,6 +30,7 @@ use Rattle.library_core.specs.Puts.{HasAnswered, HasPut}
 use Rattle.library_core.specs.Stands.{whole_from}
 use Rattle.library_core.proofs.CallLemmas.{may-answer, runs-answered, sound-answered}
 use Rattle.library_core.proofs.JournalLemmas.{moment-still, more-journaled}
+use Rattle.library_core.proofs.RefusalLaws.{refused-told}
 
 -- ---- where the entries stay
 
@@ -60,7 +61,10 @@ behind-front s (Ok c) gone = (c.entries, entries-after s c (gone c refl))
 behind-front s (Err refused) gone = ([], sym (append-nil s.entries))
 
 no-fault : (reply fault : Reply) → is_fault reply ≡ false → is_fault fault ≡ true → reply ≡ fault → ⊥
-no-fault reply fault told is same = false≢true (sym told ∙ ap is_fault same ∙ is)
+no-fault reply fault told is same = false≢true (sym told ∙ ap (λ (x : Reply). is_fault x) same ∙ is)
+
+memory-no_fault : replies.NoMemory ≡ replies.StoreFault → ⊥
+memory-no_fault is = absurd cc
 
 -- ---- the call
 
@@ -124,6 +128,7 @@ module _ (tells : Type 0) (old : Disk) (before roomy : BookState) (s : State) (s
   no_memory-answered later needs = record {
     answered = λ alive. inr (refl, refl, needs);
     fault = λ failed. absurd (false≢true failed);
+    other = λ alive is. memory-no_fault is;
     runs = runs-answered sources s s job timestamp r running built (Err stop.NoMemory) refl (λ is. needs);
     sound = sound;
     acknowledged = no_memory-acknowledged later;
@@ -134,6 +139,7 @@ module _ (tells : Type 0) (old : Disk) (before roomy : BookState) (s : State) (s
   refused-answered later reply refused = record {
     answered = λ alive. may-answer sources s s job timestamp r (Err (stop.Refused reply)) (refl, refused) (refused-memory reply);
     fault = λ failed. absurd (false≢true failed);
+    other = λ alive is. no-fault reply replies.StoreFault (refused-told sources s.entries (memory_of s) job timestamp r reply built refused) refl is;
     runs = runs-answered sources s s job timestamp r running built (Err (stop.Refused reply)) (refl, refused) (refused-memory reply);
     sound = sound;
     acknowledged = refused-acknowledged later reply refused;
@@ -144,6 +150,7 @@ module _ (tells : Type 0) (old : Disk) (before roomy : BookState) (s : State) (s
   untouched-answered later needs = record {
     answered = λ alive. absurd (false≢true (sym alive));
     fault = λ failed. refl;
+    other = λ alive. absurd (false≢true (sym alive));
     runs = runs-answered sources s s job timestamp r running built (Err stop.NoMemory) refl (λ is. needs);
     sound = sound;
     acknowledged = fault-acknowledged later;
@@ -164,6 +171,7 @@ module _ (tells : Type 0) (old : Disk) (before roomy : BookState) (s : State) (s
     done-answered stays later forced = record {
       answered = λ alive. may-answer sources s (after s c) job timestamp r (Ok c.reply) (c, done, refl, refl) (done-memory c.reply);
       fault = λ failed. absurd (false≢true failed);
+      other = λ alive is. no-fault c.reply replies.StoreFault (plain c done).told refl is;
       runs = runs-answered sources s (after s c) job timestamp r running built (Ok c.reply) (c, done, refl, refl) (done-memory c.reply);
       sound = sound-answered stays sources s (after s c) job timestamp r running sound (Ok c.reply) (c, done, refl, refl) (done-memory c.reply);
       acknowledged = done-waits later forced;
@@ -174,6 +182,7 @@ module _ (tells : Type 0) (old : Disk) (before roomy : BookState) (s : State) (s
     fault-answered stays later = record {
       answered = λ alive. absurd (false≢true (sym alive));
       fault = λ failed. refl;
+      other = λ alive. absurd (false≢true (sym alive));
       runs = runs-answered sources s (after s c) job timestamp r running built (Ok c.reply) (c, done, refl, refl) (done-memory c.reply);
       sound = sound-answered stays sources s (after s c) job timestamp r running sound (Ok c.reply) (c, done, refl, refl) (done-memory c.reply);
       acknowledged = fault-acknowledged later;

@@ -3,7 +3,10 @@ use Rattle.std.proofs.Common.{◌≡◌, ◌≤◌, ℕ, ◌+◌, ◌*◌, Bool,
 use Rattle.entry_codec.specs.declared.entries.Entry.{Entry}
 use Rattle.library_model.specs.NeedsMemory.{needs_memory}
 use Rattle.library_model.specs.declared.requests.Request.{Request}
-use Rattle.library_model.specs.declared.requests.Request.TheVariants.{CreatePhysicalFile, CreateLogicalFile, DeleteFile, AddMember, ClearMember, ReorganizeMember, StartJournaling, EndJournaling, ChangeJournal, DeleteReceiver, Checkpoint, DisplayJournal, ApplyChanges, RemoveChanges, StartCommitment, EndCommitment, Commit, Rollback, OpenFile, CloseFile, SetLowerLimit, SetGreaterThan, Read, ReadPrior, ReadEqual, ReadPriorEqual, Chain, Write, Update, Delete, Unlock, EndJob}
+use Rattle.library_model.specs.declared.requests.Request.TheVariants.{CreatePhysicalFile, CreateLogicalFile, DeleteFile, AddMember, ClearMember, ReorganizeMember, StartJournaling, EndJournaling}
+use Rattle.library_model.specs.declared.requests.Request.TheVariants.{ChangeJournal, DeleteReceiver, Checkpoint, DisplayJournal, ApplyChanges, RemoveChanges, StartCommitment, EndCommitment, Commit}
+use Rattle.library_model.specs.declared.requests.Request.TheVariants.{Rollback, OpenFile, CloseFile, SetLowerLimit, SetGreaterThan, Read, ReadPrior, ReadEqual, ReadPriorEqual, Chain, Write, Update}
+use Rattle.library_model.specs.declared.requests.Request.TheVariants.{Delete, Unlock, EndJob}
 use Rattle.library_model.specs.declared.sources.NamedSource.{NamedSource}
 use Rattle.library_steps.specs.Change.{Change}
 use Rattle.library_steps.specs.EndJob.{end_change}
@@ -26,7 +29,8 @@ commit-used forced [] = some-used forced false
 commit-used forced (e ∷ entries) = some-used forced true
 
 -- a request that wants no memory takes a place where the definitions count one
-free-used : (sources : List NamedSource) (entries : List Entry) (m : Memory) (job timestamp : ℕ) (request : Request) (c : Change) → needs_memory request ≡ false → change sources entries m job timestamp request ≡ Ok c
+free-used : (sources : List NamedSource) (entries : List Entry) (m : Memory) (job timestamp : ℕ) (request : Request) (c : Change) → needs_memory request ≡ false
+    → change sources entries m job timestamp request ≡ Ok c
     → places_taken request c.entries ≤ place_used c
 unfolding change
 free-used sources entries m job timestamp (CloseFile args) c free is = some-used c.forced (has_entries c.entries)
@@ -80,7 +84,8 @@ module _ (s : State) (done : Change) (d : Does s done) (room : ℕ) (most : plac
   }
 
   -- those that were due were there
-  free-places : places_due s.jobs ≤ room → needs_memory d.request ≡ false → places_due done.memory.jobs + place_used done ≤ places_due s.jobs → HasPlaces s done (places_taken d.request done.entries) room
+  free-places : places_due s.jobs ≤ room → needs_memory d.request ≡ false → places_due done.memory.jobs + place_used done ≤ places_due s.jobs
+      → HasPlaces s done (places_taken d.request done.entries) room
   free-places due free spent =
       let used = free-used d.sources s.entries (memory_of s) d.job d.timestamp d.request done free d.does in
       record {
@@ -88,7 +93,8 @@ module _ (s : State) (done : Change) (d : Does s done) (room : ℕ) (most : plac
         behind = λ left enough. omega (arith, used, due, spent, enough);
       }
 
-  pub places-last : places_due s.jobs ≤ room → (needs_memory d.request ≡ true → 2 * length s.jobs + 1 ≤ room) → (needs_memory d.request ≡ false → places_due done.memory.jobs + place_used done ≤ places_due s.jobs)
+  pub places-last : places_due s.jobs ≤ room → (needs_memory d.request ≡ true → 2 * length s.jobs + 1 ≤ room)
+      → (needs_memory d.request ≡ false → places_due done.memory.jobs + place_used done ≤ places_due s.jobs)
       → HasPlaces s done (places_taken d.request done.entries) room
   places-last due made spent = by (needs_memory d.request) refl
     where

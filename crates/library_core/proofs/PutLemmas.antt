@@ -1,7 +1,9 @@
 -- The entries of a call, put into the journal, or none.
-use Rattle.std.proofs.Common.{◌≡◌, ◌⊎◌, inl, inr, ◌+◌, ◌<◌, ◌≤◌, ℕ, Bool, true, false, ◌||◌, if◌then◌else◌, List, [], ◌∷◌, ◌++◌, length, append-nil, Result, Ok, Err, OnOk, refl, sym, ◌∙◌, ap, subst, arith}
-use Rattle.std.specs.Prelude.{IsErr}
+use Rattle.std.proofs.Common.{◌≡◌, ◌⊎◌, inl, inr, ◌+◌, ◌<◌, ◌≤◌, ℕ, Bool, true, false, ◌||◌, if◌then◌else◌, List, [], ◌∷◌, ◌++◌, length, append-nil, Result, Ok, Err, OnOk, refl, sym, ◌∙◌, ap, subst}
+use Rattle.std.proofs.Common.{arith, ◌-◌, drop, take}
+use Rattle.std.specs.Prelude.{IsErr, IsOk}
 use Rattle.std.proofs.lemmas.Bool.{false≢true}
+use Rattle.std.proofs.lemmas.List.{length-drop, take_all}
 use Rattle.store_model.specs.Disk.{Disk, Leaves}
 use Rattle.store_model.specs.Faults.{Rose}
 use Rattle.entry_codec.specs.declared.entries.Entry.{Entry}
@@ -26,12 +28,35 @@ ok-map : {A E P Q : Type 0} (r : Result A E) → (P → Q) → OnOk r P → OnOk
 ok-map (Ok a) goes here = goes here
 ok-map (Err e) goes here = here
 
+-- what stands behind so many is all of that
+pub all-behind : (n : ℕ) (xs : List Entry) → take (length xs - n) (drop n xs) ≡ drop n xs
+all-behind n xs = take_all (length xs - n) (drop n xs) (omega (arith, length-drop n xs))
+
+-- ---- whether the request was done
+
+pub is-done : {A E : Type 0} (r : Result A E) (a : A) → r ≡ Ok a → IsOk r
+is-done (Ok x) a is = refl
+is-done (Err e) a is = absurd cc
+
+pub is-failed : {A E : Type 0} (r : Result A E) (e : E) → r ≡ Err e → IsErr r
+is-failed (Ok x) e is = absurd cc
+is-failed (Err x) e is = refl
+
+pub not-both : {A E P : Type 0} (r : Result A E) → IsOk r → IsErr r → P
+not-both (Ok x) fine bad = absurd (false≢true bad)
+not-both (Err e) fine bad = absurd (false≢true fine)
+
+-- ---- the entries
+
 -- by one call of the journal
-pub put-taken : (tells : Type 0) (old new : Disk) (before after : BookState) (request : Request) (entries : List Entry) (forced : Bool) (put : Result (Unit {0}) StoreFault) → are_put request entries ≡ true → forced ≡ is_forced request entries
+pub put-taken : (tells : Type 0) (old new : Disk) (before after : BookState) (request : Request) (entries : List Entry) (forced : Bool) (put : Result (Unit {0}) StoreFault)
+    → are_put request entries ≡ true → forced ≡ is_forced request entries
     → OnOk put (tells → (all : List Entry) → Holds before all old → Holds after (all ++ entries) new)
     → (tells → (all : List Entry) → Holds before all old → Leaves old new (IsForcedOrFrom before.chain.first before.forced (length (all ++ entries)) (all ++ entries)))
-    → OnOk put (forced ≡ true → after.waiting ≡ 0) → OnOk put ((after.forced ≡ before.forced) ⊎ (after.waiting ≡ 0)) → OnOk put (length after.buffered < MUCH) → OnOk put (next_of after ≡ next_of before + length entries)
-    → after.first ≡ before.first → after.chain.first ≡ before.chain.first → attached_of after.chain ≡ attached_of before.chain → OnOk put (before.chain.room ≤ after.chain.room + 1) → old.faults ≤ new.faults
+    → OnOk put (forced ≡ true → after.waiting ≡ 0) → OnOk put ((after.forced ≡ before.forced) ⊎ (after.waiting ≡ 0)) → OnOk put (length after.buffered < MUCH)
+    → OnOk put (next_of after ≡ next_of before + length entries)
+    → after.first ≡ before.first → after.chain.first ≡ before.chain.first → attached_of after.chain ≡ attached_of before.chain → OnOk put (before.chain.room ≤ after.chain.room + 1)
+    → old.faults ≤ new.faults
     → (IsErr put → Rose old.faults new.faults) → HasTaken tells old new before after request entries put
 put-taken tells old new before after request entries forced put are is kept moments acknowledged whole little next first receiver number places faults cause = record {
   kept = kept;

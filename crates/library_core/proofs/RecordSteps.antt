@@ -16,7 +16,8 @@ use Rattle.library_steps.specs.Opens.{open_plan, with_open, open_file, without_o
 use Rattle.library_steps.specs.SlotChange.{NewSlot, change_made, cycle_for, noted, touched, slot_changed, with_cycle, with_slot, with_undo}
 use Rattle.library_steps.specs.WriteRecord.{write_call, write_plan, write_change, write_record}
 use Rattle.library_steps.specs.ChangeRecord.{update_plan, update_change, update_record, without_current, without_record, delete_plan, delete_change, delete_record, unlock_change, unlock_plan, unlock}
-use Rattle.library_steps.specs.Reads.{open_changed, NewPosition, positioned, position_change, set_lower_limit, set_greater_than, FoundEntry, has_read, read_change, read, read_prior, read_equal, read_prior_equal, chain}
+use Rattle.library_steps.specs.Reads.{open_changed, NewPosition, positioned, position_change, set_lower_limit, set_greater_than, FoundEntry, has_read, read_change, read, read_prior, read_equal}
+use Rattle.library_steps.specs.Reads.{read_prior_equal, chain}
 use Rattle.library_core.proofs.ResultLemmas.{Holds, each-holds, does-holds}
 use Rattle.library_core.proofs.SpareLemmas.{Spares, SparesIn, spares-all, spares-job, spares-both}
 

@@ -18,9 +18,12 @@ use Rattle.library_core.specs.Running.{runs_after}
 use Rattle.library_core.proofs.RunLemmas.{runs-ended, runs-on}
 use Rattle.library_core.proofs.SpareLemmas.{SparesIn}
 use Rattle.library_core.proofs.ResultLemmas.{Holds, wider-holds}
-use Rattle.library_core.proofs.FileSteps.{create_physical_file-spares, create_logical_file-spares, delete_file-spares, add_member-spares, clear_member-spares, reorganize_member-spares, start_journaling-spares, end_journaling-spares}
-use Rattle.library_core.proofs.RecordSteps.{open_file-spares, close_file-spares, write_record-spares, update_record-spares, delete_record-spares, unlock-spares, set_lower_limit-spares, set_greater_than-spares, read-spares, read_prior-spares, read_equal-spares, read_prior_equal-spares, chain-spares}
-use Rattle.library_core.proofs.JournalSteps.{change_journal-spares, delete_receiver-spares, display_journal-spares, apply_changes-spares, remove_changes-spares, start_commitment-spares, end_commitment-spares, commit-spares, rollback-spares, taken_back-jobs}
+use Rattle.library_core.proofs.FileSteps.{create_physical_file-spares, create_logical_file-spares, delete_file-spares, add_member-spares, clear_member-spares, reorganize_member-spares}
+use Rattle.library_core.proofs.FileSteps.{start_journaling-spares, end_journaling-spares}
+use Rattle.library_core.proofs.RecordSteps.{open_file-spares, close_file-spares, write_record-spares, update_record-spares, delete_record-spares, unlock-spares, set_lower_limit-spares}
+use Rattle.library_core.proofs.RecordSteps.{set_greater_than-spares, read-spares, read_prior-spares, read_equal-spares, read_prior_equal-spares, chain-spares}
+use Rattle.library_core.proofs.JournalSteps.{change_journal-spares, delete_receiver-spares, display_journal-spares, apply_changes-spares, remove_changes-spares, start_commitment-spares}
+use Rattle.library_core.proofs.JournalSteps.{end_commitment-spares, commit-spares, rollback-spares, taken_back-jobs}
 
 pub record Leaves (job : ℕ) (r : Request) (m : Memory) (c : Change) : Type 0 where
   pub runs : (other : ℕ) → is_running (job_at other c.memory.jobs) ≡ runs_after job r m.jobs other

@@ -1,5 +1,5 @@
 -- What a call makes of the library's journal: its entries come behind all others, or the store is found at fault. (Our own.)
-use Rattle.std.specs.Prelude.{◌≡◌, ◌⊎◌, ℕ, ◌+◌, ◌<◌, ◌≤◌, ◌||◌, Bool, true, false, if◌then◌else◌, Result, Ok, Err, List, ◌++◌, length, OnOk, IsErr}
+use Rattle.std.specs.Prelude.{◌≡◌, ◌≢◌, ◌⊎◌, ℕ, ◌+◌, ◌<◌, ◌≤◌, ◌||◌, Bool, true, false, if◌then◌else◌, Result, Ok, Err, List, ◌++◌, length, OnOk, IsErr}
 use Rattle.store_model.specs.Disk.{Disk, Leaves}
 use Rattle.store_model.specs.Faults.{Rose}
 use Rattle.entry_codec.specs.declared.entries.Entry.{Entry}
@@ -75,6 +75,7 @@ pub record HasPut (tells : Type 0) (old new : Disk) (before after : BookState) (
 pub record HasAnswered (sources : List NamedSource) (s t : State) (after : BookState) (call : Call) (failed : Bool) : Type 0 where
   pub answered : failed ≡ false → MayAnswer sources s call.job call.timestamp call.request call.reply t
   pub fault : failed ≡ true → call.reply ≡ reply.StoreFault
+  pub other : failed ≡ false → call.reply ≢ reply.StoreFault
   pub runs : (other : ℕ) → is_running (job_at other t.jobs) ≡ runs_after call.job call.request s.jobs other
   pub sound : IsSound t
   pub acknowledged : IsAcknowledged sources s call → after.waiting ≡ 0

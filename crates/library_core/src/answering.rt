@@ -105,7 +105,10 @@ fn make_room(journal: &mut KeptJournal, jobs: usize, request: &Request) -> bool
     ensures refused { result ≡ false → needs_memory request.now ≡ true }
 {
     if kinds::wants_memory(request) {
-        reserve_for(journal, jobs).is_ok()
+        match reserve_for(journal, jobs) {
+            Ok(()) => true,
+            Err(_) => false,
+        }
     } else {
         true
     }
@@ -122,22 +125,11 @@ pub(crate) fn reserve_for(journal: &mut KeptJournal, jobs: usize) -> Result<(), 
     journal.reserve(2 * jobs as u32 + 1)
 }
 
-/// All entries that are kept.
-fn kept_entries(contents: &Contents) -> &[Entry]
-    ensures { result.now ≡ contents.now.state.entries }
-{
-    let (kept, last) = contents.bounds();
-    match contents.entries(kept, last) {
-        Ok(entries) => entries,
-        Err(_) => &[],
-    }
-}
-
 /// How many entries are kept.
 fn kept_count(contents: &Contents) -> usize
     ensures { result ≡ length contents.now.state.entries }
 {
-    kept_entries(contents).len()
+    contents.all_entries().len()
 }
 
 /// Puts the entries behind so many, where the request was done.
@@ -180,7 +172,7 @@ fn put_behind<S: Store>(
     requires place { places_taken request.now (drop before contents.now.state.entries) ≤ journal.old.chain.room }
     ensures { HasTaken S.tells (S.disk store.old) (S.disk store.new) journal.old journal.new request.now (drop before contents.now.state.entries) result }
 {
-    let all = kept_entries(contents);
+    let all = contents.all_entries();
     put_entries(journal, store, &all[before..], request)
 }
 

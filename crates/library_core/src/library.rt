@@ -131,7 +131,8 @@ fn begin(contents: &mut Contents, journal: &mut KeptJournal, name: Name) -> Resu
     ensures room { OnOk result (2 * length contents.old.state.jobs + 1 ≤ journal.new.chain.room) }
 {
     reserve_for(journal, contents.jobs_begun())?;
-    contents.begin_job(name)
+    let number = contents.begin_job(name)?;
+    Ok(number)
 }
 
 /// Answers one request of a job, at a time. After a store fault the library has failed: open it again.
@@ -152,6 +153,7 @@ pub fn call<S: Store>(
     ensures paths { ArePaths library.new.state.files library.new.state.members library.new.paths }
     // A store fault alone ends it.
     ensures alive { result ≢ Reply.StoreFault → library.new.failed ≡ false }
+    ensures fault { result ≡ Reply.StoreFault → library.new.failed ≡ true }
     ensures cause { library.new.failed ≡ true → Rose (S.disk library.old.store).faults (S.disk library.new.store).faults }
     ensures faults { (S.disk library.old.store).faults ≤ (S.disk library.new.store).faults }
     // What a stop leaves within the call, and behind it.

@@ -1,4 +1,4 @@
-use Rattle.std.proofs.Common.{◌≡◌, ◌≤◌, ◌+◌, Ok, sym, subst}
+use Rattle.std.proofs.Common.{◌≡◌, ◌≤◌, ◌+◌, Ok, sym, subst, arith}
 use Rattle.library_steps.specs.Receivers.{attach_plan}
 use Rattle.library_steps.specs.State.{State, memory_of}
 use Rattle.library_steps.specs.declared.limits.TheConstants.{LAST_SEQUENCE}
@@ -19,3 +19,6 @@ returns-clause-next c = subst (λ (s : State). c.in_ok-number.number ≡ s.recei
 
 pub returns-clause-left : goal.returns-clause-left
 returns-clause-left c = subst (λ (s : State). (memory_of s).last_entry ≤ LAST_SEQUENCE) (sym c.prepare_attach.ensures.state) c.in_ok-number.ensures.left
+
+pub returns-clause-places : goal.returns-clause-places
+returns-clause-places c = omega (arith, c.in_ok-reserve_for.ensures.room, c.jobs_begun.ensures.count)
