@@ -1,3 +1,3 @@
 mod OutcomeLemmas
 mod RunLemmas
-mod SourceLemmas
+mod ShortLemmas
