@@ -3,4 +3,4 @@ mod InputLemmas
 mod JobLemmas
 mod LeastLemmas
 mod ScheduleLemmas
-pub mod SourceLengths
+mod SourceLengths
