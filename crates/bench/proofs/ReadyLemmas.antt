@@ -1,6 +1,6 @@
 -- How jobs begin in a library, and that each of them may make a call then and after each call that ends no job.
-use Rattle.std.proofs.Common.{◌≡◌, ◌≤◌, ◌<◌, ℕ, zero, suc, ◌+◌, ◌-◌, true, false, IsTrue, List, [], ◌∷◌, ◌++◌, length, map, slice_get, refl, sym, ◌∙◌, ap, subst, arith, length-append, ++-assoc, ◌⊎◌, inl, inr}
-use Rattle.std.proofs.lemmas.List.{length-map, map-append}
+use Rattle.std.proofs.Common.{◌≡◌, ◌≤◌, ◌<◌, ℕ, zero, suc, ◌+◌, ◌-◌, true, false, IsTrue, List, [], ◌∷◌, ◌++◌, length, map, slice_get, refl, sym, ◌∙◌, ap, subst, arith, length-append, ◌⊎◌, inl, inr}
+use Rattle.std.proofs.lemmas.List.{append_assoc, length-map, map-append}
 use Rattle.std.proofs.lemmas.Bool.Decides.{nat_tests}
 use Rattle.library_model.specs.declared.requests.Request.{Request}
 use Rattle.library_model.specs.declared.sources.NamedSource.{NamedSource}
@@ -38,7 +38,7 @@ pub HasBegun-more : {S : Type 0} (count : ℕ) (name : List ℕ) (old new : Libr
 HasBegun-more count name old new before begins same =
     let jobs : map new_job (before.names ++ name ∷ []) ≡ map new_job before.names ++ new_job name ∷ [] = map-append new_job before.names (name ∷ []) in
     let order : before.start.jobs ++ map new_job (before.names ++ name ∷ []) ≡ (before.start.jobs ++ map new_job before.names) ++ new_job name ∷ [] =
-        ap (λ (js : List JobState). before.start.jobs ++ js) jobs ∙ sym (++-assoc before.start.jobs (map new_job before.names) (new_job name ∷ [])) in
+    ap (λ (js : List JobState). before.start.jobs ++ js) jobs ∙ sym (append_assoc before.start.jobs (map new_job before.names) (new_job name ∷ [])) in
     record {
       start = before.start;
       sound = before.sound;

@@ -1,3 +1,4 @@
 mod OutcomeLemmas
 mod RunLemmas
 mod ShortLemmas
+mod WordLemmas

@@ -45,10 +45,11 @@ parts-size : (most number : ℕ) (lines : List (List ℕ)) → size lines ≤ mo
 parts-size most number [] le = tt
 parts-size most number (line ∷ lines) le = ⊎_elim
     (λ card. rw (cond-true (is_card line) (record { line = number; card = card_of line; lines = before_card lines } ∷ parts_from (number + 1) lines) (parts_from (number + 1) lines) card)
-        (let its = before-size lines in (omega (arith, its, le), parts-size most (number + 1) lines (omega (arith, le)))))
+    (let its = before-size lines in (omega (arith, its, le), parts-size most (number + 1) lines (omega (arith, le)))))
     (λ none. rw (cond-false (is_card line) (record { line = number; card = card_of line; lines = before_card lines } ∷ parts_from (number + 1) lines) (parts_from (number + 1) lines) none)
-        (parts-size most (number + 1) lines (omega (arith, le))))
+    (parts-size most (number + 1) lines (omega (arith, le))))
     (cases_Bool (is_card line))
+
 unfolding parts_from
 
 -- none of these is longer

@@ -20,12 +20,12 @@ both-begun name s t none is = is ∙ ap (λ (jobs : List JobState). record s { j
 ready : {S : Type 0} (name : List ℕ) (s : State) (library : LibraryOver S) (job place : ℕ) → s.jobs ≡ [] → library.failed ≡ false → library.state ≡ one_more name (one_more name s)
     → IsSound (begun s (name ∷ name ∷ [])) → job ≡ place → IsTrue (is_running (job_at place (both name))) → IsReady job library
 ready name s library job place none alive is sound number run =
-    let as = both-begun name s library.state none is in
+    let stands = both-begun name s library.state none is in
     record {
       alive = alive;
-      running = subst (λ (t : State). IsTrue (is_running (job_at job t.jobs))) (sym as)
+      running = subst (λ (t : State). IsTrue (is_running (job_at job t.jobs))) (sym stands)
           (subst (λ (jobs : List JobState). IsTrue (is_running (job_at job (jobs ++ both name)))) (sym none) (subst (λ (n : ℕ). IsTrue (is_running (job_at n (both name)))) (sym number) run));
-      sound = subst IsSound (sym as) sound;
+      sound = subst IsSound (sym stands) sound;
     }
 
 pub returns-clause-first : goal.returns-clause-first
