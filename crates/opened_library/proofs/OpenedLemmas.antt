@@ -28,21 +28,22 @@ abbrev AreSound : Type 0
 AreSound = (entries : List Entry) (attached moment : ℕ) → CanReplayJournal descriptions (journal_with entries) → AreDeposited entries
     → library_bytes (library_restarted (λ _. 0) attached moment (journal_with entries)).members ≤ MOST_LIBRARY_BYTES → IsSound (library_restarted (λ _. 0) attached moment (journal_with entries))
 
-pub opened : {S : Type 0} (law : AreSound) (tells : Type 0) (old middle new : Disk) (library : LibraryOver S) (book : BookState) (entries : List Entry) (s : Standing) → new ≡ middle
-    → IsRestarted descriptions tells old middle restart_job 0 book entries s → Restarts tells old middle → old.faults ≤ middle.faults → IsBuilt tells middle entries library → IsOpenedLibrary tells old new library
-opened law tells old middle new library book entries s same restarted restarts rose built =
+pub opened : {S : Type 0} (law : AreSound) (tells : Type 0) (disk : S → Disk) (old : Disk) (store : S) (library : LibraryOver S) (book : BookState) (entries : List Entry) (s : Standing)
+    → library.store ≡ store → IsRestarted descriptions tells old (disk store) restart_job 0 book entries s → Restarts tells old (disk store) → old.faults ≤ (disk store).faults
+    → IsBuilt tells (disk store) entries library → IsOpenedLibrary tells old (disk library.store) library
+opened law tells disk old store library book entries s same restarted restarts rose built =
     let before = restarted.before in
     let is : library.state ≡ library_restarted (λ _. 0) built.attached 0 (journal_with before) =
         built.state ∙ ap (λ (all : List Entry). library_left (λ _. 0) built.attached (journal_with all)) restarted.ended.ended in
     record {
       before = before;
       from = record { replays = restarted.replays; spelled = restarted.spelled; attached = built.attached; left = is };
-      restart = subst (λ (disk : Disk). Restarts tells old disk) (sym same) restarts;
+      restart = subst (λ (it : S). Restarts tells old (disk it)) (sym same) restarts;
       sound = subst IsSound (sym is) (law before built.attached 0 restarted.replays restarted.deposited (subst (λ (t : State). library_bytes t.members ≤ MOST_LIBRARY_BYTES) is built.few));
       none = ap (λ (t : State). t.jobs) is;
       alive = built.alive;
       all = built.all;
       receiver = built.receiver;
-      left = λ told areas may. built.left told areas (subst (λ (disk : Disk). May disk areas) same may);
-      faults = subst (λ (disk : Disk). old.faults ≤ disk.faults) (sym same) rose;
+      left = λ told areas may. built.left told areas (subst (λ (it : S). May (disk it) areas) same may);
+      faults = subst (λ (it : S). old.faults ≤ (disk it).faults) (sym same) rose;
     }
