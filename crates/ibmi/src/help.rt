@@ -44,8 +44,12 @@ fn say_jobs_help<R: Eprint>(rt: &R, alloc: Global, remains: &Remains<'_>) {
 }
 
 /// Says that another run has the library's folder.
-pub(crate) fn say_in_use<R: Eprint>(rt: &R, folder: &str) {
-    let _ = eprintln!(rt; "the library in {folder:?} is in use by another run: try again when that one has ended");
+pub(crate) fn say_in_use<R: Eprint>(rt: &R, words: &[String]) {
+    if let [_, folder] = words {
+        let _ = eprintln!(rt;
+            "the library in {folder:?} is in use by another run: try again when that one has ended"
+        );
+    }
 }
 
 /// Says what to type, where words that are a run have a terminal as their input.
