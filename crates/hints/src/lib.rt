@@ -17,6 +17,7 @@ mod names;
 mod parameters;
 mod script;
 mod statements;
+mod stores;
 mod visible;
 mod words;
 
@@ -24,4 +25,5 @@ pub use command_line::{terminal_help, words_help};
 pub use ended_jobs::jobs_help;
 pub use help_text::HelpText;
 pub use script::{line_help, script_help};
+pub use stores::{FolderTrouble, folder_help};
 pub use visible::MOST_SHOWN;

@@ -1,6 +1,9 @@
 //! Help on standard error, below the text of a status. Where it can't be made, nothing is printed.
 use crate::kept::Kept;
-use hints::{HelpText, jobs_help, line_help, script_help, terminal_help, words_help};
+use hints::{
+    FolderTrouble, HelpText, folder_help, jobs_help, line_help, script_help, terminal_help,
+    words_help,
+};
 use ibmi_batch::status::Status;
 use std::alloc::{AllocError, Global};
 
@@ -18,15 +21,17 @@ pub(crate) fn say_help<R: Eprint>(rt: &R, alloc: Global, status: Status, remains
         Status::Words => say(rt, words_help(alloc, remains.words)),
         Status::Script { line } => say_script_help(rt, alloc, line, remains),
         Status::JobsEnded => say_jobs_help(rt, alloc, remains),
+        Status::NotALibrary => say(rt, folder_help(alloc, FolderTrouble::NoLibrary)),
+        Status::Damaged { area, .. } => {
+            say(rt, folder_help(alloc, FolderTrouble::Damaged { area }));
+        }
+        Status::StoreFault => say(rt, folder_help(alloc, FolderTrouble::Fault)),
+        Status::Exists => say(rt, folder_help(alloc, FolderTrouble::Library)),
         Status::Done
         | Status::ReadFault
         | Status::TooLong
-        | Status::NotALibrary
-        | Status::Damaged { .. }
-        | Status::StoreFault
         | Status::WriteFault
-        | Status::NoMemory
-        | Status::Exists => {}
+        | Status::NoMemory => {}
     }
 }
 

@@ -47,6 +47,7 @@ fn main(rt: HostRuntime) -> ExitCode {
     let code = end(&rt, ended.status);
     if ended.in_use {
         say_in_use(&rt, words.as_slice());
+        return code;
     }
     let remains = Remains {
         words: words.as_slice(),
