@@ -18,6 +18,7 @@ mod parameters;
 mod script;
 mod statements;
 mod stores;
+mod unjournaled;
 mod visible;
 mod words;
 
@@ -26,4 +27,5 @@ pub use ended_jobs::jobs_help;
 pub use help_text::HelpText;
 pub use script::{line_help, script_help};
 pub use stores::{FolderTrouble, folder_help};
+pub use unjournaled::unjournaled_help;
 pub use visible::MOST_SHOWN;

@@ -1,5 +1,5 @@
 //! Help for jobs that ended early, for words and for a terminal.
-use hints::{FolderTrouble, folder_help, jobs_help, terminal_help, words_help};
+use hints::{FolderTrouble, folder_help, jobs_help, terminal_help, unjournaled_help, words_help};
 use std::alloc::{AllocError, Global};
 use std::process::Abort;
 use std::test::Fail;
@@ -92,6 +92,30 @@ const WORDS: &[(&[&str], &str)] = &[
     (&["DSP", "lib"], ""),
 ];
 
+/// A listing, and what is said of files that aren't journaled.
+const UNJOURNALED: &[(&[u8], &str)] = &[
+    (
+        b"HISTORY\n1 J1 0 CRTPF FILE(CUST) SRC(CUST) => OK\n2 J1 1 OPNDBF FILE(CUST) OPTION(*ALL) MBR(CUST) OPNID(CUST) COMMIT(*NO) ACCPTH(*FILE) => OK\n3 J1 2 ENDJOB REASON(*NORMAL) LINE(0) => OK\nEND 3\n",
+        "hint: file CUST isn't journaled: its records end with the run; STRJRNPF before the first of them keeps them\n",
+    ),
+    (
+        b"HISTORY\n1 J1 0 CRTPF FILE(CUST) SRC(CUST) => OK\n2 J1 1 STRJRNPF FILE(CUST) MBR(CUST) IMAGES(*AFTER) => OK\n3 J1 2 OPNDBF FILE(CUST) OPTION(*ALL) MBR(CUST) OPNID(CUST) COMMIT(*NO) ACCPTH(*FILE) => OK\nEND 3\n",
+        "",
+    ),
+    (
+        b"HISTORY\n1 J1 0 CRTPF FILE(CUST) SRC(CUST) => OK\n2 J1 1 OPNDBF FILE(CUST) OPTION(*INP) MBR(CUST) OPNID(CUST) COMMIT(*NO) ACCPTH(*FILE) => OK\nEND 2\n",
+        "",
+    ),
+    (
+        b"HISTORY\n1 J1 0 CRTPF FILE(CUST) SRC(CUST) => OK\n2 J1 1 OPNDBF FILE(CUST) OPTION(*ALL) MBR(CUST) OPNID(CUST) COMMIT(*NO) ACCPTH(*FILE) => OK\n3 J1 2 CLOF OPNID(CUST) => OK\n4 J1 3 DLTF FILE(CUST) => OK\nEND 4\n",
+        "",
+    ),
+    (
+        b"HISTORY\n1 J1 0 CRTPF FILE(CUST) SRC(CUST) => NameExists NAME(CUST)\n2 J1 1 OPNDBF FILE(CUST) OPTION(*ALL) MBR(CUST) OPNID(CUST) COMMIT(*NO) ACCPTH(*FILE) => OK\nEND 2\n",
+        "",
+    ),
+];
+
 /// What a folder's trouble is, and what to do about it.
 const TROUBLES: &[(FolderTrouble, &str)] = &[
     (
@@ -148,6 +172,23 @@ fn check_troubles(
         assert_eq!(rt; help.as_bytes(), wanted.as_bytes(), "{wanted}");
     }
     Ok(())
+}
+
+fn check_unjournaled(
+    rt: &impl Abort,
+    alloc: Global,
+    rows: &[(&'static [u8], &'static str)],
+) -> Result<(), Fail> {
+    for &(listing, wanted) in rows {
+        let help = unjournaled_help(alloc, listing)?;
+        assert_eq!(rt; help.as_bytes(), wanted.as_bytes(), "{wanted}");
+    }
+    Ok(())
+}
+
+#[test]
+fn unjournaled(rt: HostRuntime) -> Result<(), Fail> {
+    check_unjournaled(&rt, rt.alloc(), UNJOURNALED)
 }
 
 #[test]

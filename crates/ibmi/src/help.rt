@@ -27,11 +27,8 @@ pub(crate) fn say_help<R: Eprint>(rt: &R, alloc: Global, status: Status, remains
         }
         Status::StoreFault => say(rt, folder_help(alloc, FolderTrouble::Fault)),
         Status::Exists => say(rt, folder_help(alloc, FolderTrouble::Library)),
-        Status::Done
-        | Status::ReadFault
-        | Status::TooLong
-        | Status::WriteFault
-        | Status::NoMemory => {}
+        Status::Done => say_unjournaled_help(rt, alloc, remains),
+        Status::ReadFault | Status::TooLong | Status::WriteFault | Status::NoMemory => {}
     }
 }
 
@@ -45,6 +42,13 @@ fn say_script_help<R: Eprint>(rt: &R, alloc: Global, line: u32, remains: &Remain
 fn say_jobs_help<R: Eprint>(rt: &R, alloc: Global, remains: &Remains<'_>) {
     if let (Some(input), Some(listing)) = (remains.input.whole(), remains.listing.whole()) {
         say(rt, jobs_help(alloc, input, listing));
+    }
+    say_unjournaled_help(rt, alloc, remains);
+}
+
+fn say_unjournaled_help<R: Eprint>(rt: &R, alloc: Global, remains: &Remains<'_>) {
+    if let Some(listing) = remains.listing.whole() {
+        say(rt, unjournaled_help(alloc, listing));
     }
 }
 
