@@ -1,5 +1,5 @@
 //! Whether a source can be made a file so far.
-ghost use Rattle.std.specs.Prelude.{◌≡◌, IfOk};
+ghost use Rattle.std.specs.Prelude.{◌≡◌, ◌⊎◌, [], ◌∷◌, ◌++◌, IfOk};
 ghost use Rattle.std.specs.Option.{option_copied};
 ghost use Rattle.dds_source.specs.Reading.{is_record};
 ghost use Rattle.dds_physical.specs.Keywords.{has_name};
@@ -33,7 +33,8 @@ pub fn add_answered(
     sources: &mut Sources,
     source: NamedSource,
 ) -> Result<(), AllocError>
-    ensures { AreAnswered sources.old → AreAnswered sources.new }
+    ensures answered { AreAnswered sources.old → AreAnswered sources.new }
+    ensures added { (sources.new ≡ sources.old) ⊎ (sources.new ≡ sources.old ++ source ∷ []) }
 {
     if is_answered(alloc, &source.text)? {
         sources.push(source)

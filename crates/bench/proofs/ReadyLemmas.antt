@@ -1,11 +1,13 @@
--- How jobs begin in a library with nothing in it, and that each of them may make a call then and after each call that ends no job.
-use Rattle.std.proofs.Common.{◌≡◌, ◌≤◌, ◌<◌, ℕ, zero, suc, ◌+◌, ◌-◌, true, false, IsTrue, List, [], ◌∷◌, ◌++◌, length, map, slice_get, refl, sym, ◌∙◌, ap, subst, arith, length-append}
-use Rattle.std.proofs.lemmas.List.{length-map, map-append}
+-- How jobs begin in a library, and that each of them may make a call then and after each call that ends no job.
+use Rattle.std.proofs.Common.{◌≡◌, ◌≤◌, ◌<◌, ℕ, zero, suc, ◌+◌, ◌-◌, true, false, IsTrue, List, [], ◌∷◌, ◌++◌, length, map, slice_get, refl, sym, ◌∙◌, ap, subst, arith, length-append, ◌⊎◌, inl, inr}
+use Rattle.std.proofs.lemmas.List.{append_assoc, length-map, map-append}
 use Rattle.std.proofs.lemmas.Bool.Decides.{nat_tests}
 use Rattle.library_model.specs.declared.requests.Request.{Request}
+use Rattle.library_model.specs.declared.sources.NamedSource.{NamedSource}
 use Rattle.library_model.specs.Ending.{is_end_job}
-use Rattle.library_steps.specs.State.{State, JobState, job_at, new_job, begun, empty_library}
+use Rattle.library_steps.specs.State.{State, JobState, job_at, new_job, begun}
 use Rattle.library_steps.specs.History.{is_running}
+use Rattle.deposited_entries.specs.Deposits.{AreShort}
 use Rattle.joint_state.specs.Sound.{IsSound}
 use Rattle.library_core.specs.Parts.{LibraryOver}
 use Rattle.library_core.specs.Running.{runs_after}
@@ -35,16 +37,22 @@ pub HasBegun-more : {S : Type 0} (count : ℕ) (name : List ℕ) (old new : Libr
     → new.failed ≡ old.failed → HasBegun (count + 1) new
 HasBegun-more count name old new before begins same =
     let jobs : map new_job (before.names ++ name ∷ []) ≡ map new_job before.names ++ new_job name ∷ [] = map-append new_job before.names (name ∷ []) in
+    let order : before.start.jobs ++ map new_job (before.names ++ name ∷ []) ≡ (before.start.jobs ++ map new_job before.names) ++ new_job name ∷ [] =
+    ap (λ (js : List JobState). before.start.jobs ++ js) jobs ∙ sym (append_assoc before.start.jobs (map new_job before.names) (new_job name ∷ [])) in
     record {
+      start = before.start;
+      sound = before.sound;
+      none = before.none;
       names = before.names ++ name ∷ [];
       many = length-append before.names (name ∷ []) ∙ ap (λ n. n + 1) before.many;
       alive = same ∙ before.alive;
-      state = begins ∙ ap (λ (s : State). record s { jobs = s.jobs ++ new_job name ∷ [] }) before.state ∙ sym (ap (λ (js : List JobState). record empty_library { jobs = js }) jobs);
+      state = begins ∙ ap (λ (s : State). record s { jobs = s.jobs ++ new_job name ∷ [] }) before.state ∙ sym (ap (λ (js : List JobState). record before.start { jobs = js }) order);
     }
 
 -- how many have begun
 pub HasBegun-length : {S : Type 0} (count : ℕ) (library : LibraryOver S) → HasBegun count library → length library.state.jobs ≡ count
-HasBegun-length count library before = ap (λ (s : State). length s.jobs) before.state ∙ length-map before.names new_job ∙ before.many
+HasBegun-length count library before =
+    ap (λ (s : State). length s.jobs) before.state ∙ ap (λ (js : List JobState). length (js ++ map new_job before.names)) before.none ∙ length-map before.names new_job ∙ before.many
 
 -- a job that has begun and done nothing runs
 begun-runs : (names : List (List ℕ)) (at : ℕ) → at < length names → is_running (slice_get (map new_job names) at) ≡ true
@@ -56,9 +64,24 @@ job-runs : (names : List (List ℕ)) (job : ℕ) → 1 ≤ job → job ≤ lengt
 job-runs names job first last = let here = begun-runs names (job - 1) (omega (arith, first, last)) in grind (arith, nat_tests, here, first)
 
 -- each that has begun may make a call
-pub AreReady-begun : {S : Type 0} (count : ℕ) (library : LibraryOver S) → ((names : List (List ℕ)) → IsSound (begun empty_library names)) → HasBegun count library → AreReady count library
+pub AreReady-begun : {S : Type 0} (count : ℕ) (library : LibraryOver S) → ((s : State) (names : List (List ℕ)) → IsSound s → s.jobs ≡ [] → IsSound (begun s names)) → HasBegun count library
+    → AreReady count library
 AreReady-begun count library sound before = record {
   alive = before.alive;
-  running = λ job first last. subst (λ (s : State). IsTrue (is_running (job_at job s.jobs))) (sym before.state) (job-runs before.names job first (omega (arith, last, before.many)));
-  sound = subst IsSound (sym before.state) (sound before.names);
+  running = λ job first last. subst (λ (s : State). IsTrue (is_running (job_at job s.jobs))) (sym before.state)
+      (subst (λ (js : List JobState). IsTrue (is_running (job_at job (js ++ map new_job before.names)))) (sym before.none) (job-runs before.names job first (omega (arith, last, before.many))));
+  sound = subst IsSound (sym before.state) (sound before.start before.names before.sound before.none);
 }
+
+-- ---- sources
+
+-- one behind the others is as short, or none came
+pub short-added : (old new : List NamedSource) (source : NamedSource) → (new ≡ old) ⊎ (new ≡ old ++ source ∷ []) → length source.text + 64 ≤ 534773760 → AreShort old → AreShort new
+short-added old new source added short all = elim added [
+  | inl same ↦ subst AreShort (sym same) all
+  | inr more ↦ subst AreShort (sym more) (behind old all)
+]
+  where
+    behind : (sources : List NamedSource) → AreShort sources → AreShort (sources ++ source ∷ [])
+    behind [] none = (short, tt)
+    behind (s ∷ sources) those = (those.0, behind sources those.1)

@@ -1,6 +1,6 @@
--- What jobs may make calls, and what a library is in which jobs have begun and nothing else. (Our own.)
-use Rattle.std.specs.Prelude.{◌≡◌, ◌≤◌, ℕ, false, IsTrue, List, length}
-use Rattle.library_steps.specs.State.{job_at, begun, empty_library}
+-- What jobs may make calls, and what a library is in which jobs have begun. (Our own.)
+use Rattle.std.specs.Prelude.{◌≡◌, ◌≤◌, ℕ, false, IsTrue, List, [], length}
+use Rattle.library_steps.specs.State.{State, job_at, begun}
 use Rattle.library_steps.specs.History.{is_running}
 use Rattle.joint_state.specs.Sound.{IsSound}
 use Rattle.library_core.specs.Parts.{LibraryOver}
@@ -11,9 +11,12 @@ pub record AreReady {S : Type 0} (count : ℕ) (library : LibraryOver S) : Type 
   pub running : (job : ℕ) → 1 ≤ job → job ≤ count → IsTrue (is_running (job_at job library.state.jobs))
   pub sound : IsSound library.state
 
--- so many jobs have begun in a library with nothing in it
+-- so many jobs have begun in a sound library that had none
 pub record HasBegun {S : Type 0} (count : ℕ) (library : LibraryOver S) : Type 0 where
+  pub start : State
+  pub sound : IsSound start
+  pub none : start.jobs ≡ []
   pub names : List (List ℕ)
   pub many : length names ≡ count
   pub alive : library.failed ≡ false
-  pub state : library.state ≡ begun empty_library names
+  pub state : library.state ≡ begun start names

@@ -1,20 +1,20 @@
 //! The library that is measured, with the jobs that ask it.
-ghost use Rattle.std.specs.Prelude.{◌≡◌, ◌≤◌, OnOk};
-ghost use Rattle.library_core.specs.Stands.{Stands};
-ghost use Rattle.library_steps.specs.State.{empty_library};
+ghost use Rattle.std.specs.Prelude.{◌≡◌, ◌≤◌, IfOk, OnOk};
 ghost use Rattle.bench.specs.Ready.{HasBegun};
 
 use crate::requests::{Asker, PlainRequest};
 use field_types::names::Name;
+use journal_opening::format_library;
 use library_core::library::{Library, call};
 use library_model::replies::Reply;
 use library_model::sources::Sources;
-use sound_histories::each_call_leaves_a_sound_library;
-use std::alloc::AllocError;
+use opened_library::open_library;
+use run_laws::jobs_begin_in_a_sound_library;
+use std::alloc::{AllocError, Global};
 use std::marker::Model;
 use store_model::MemoryStore;
 
-/// A library, and its jobs with the numbers from 1 on, each of which may make a call. `end` gives it up.
+/// A library, and its jobs with the numbers from 1 on, each of which may make a call, unless the store was at fault. `end` gives it up.
 pub(crate) struct Bench {
     library: Library<MemoryStore>,
     sources: Sources,
@@ -22,25 +22,25 @@ pub(crate) struct Bench {
 }
 
 impl Model for Bench {
-    ghost use Rattle.std.specs.Prelude.{ℕ};
+    ghost use Rattle.std.specs.Prelude.{◌≡◌, ℕ, false};
     ghost use Rattle.answered_sources.specs.Answered.{AreAnswered};
+    ghost use Rattle.deposited_entries.specs.Deposits.{AreShort};
     ghost use Rattle.bench.specs.Ready.{AreReady};
 
     ghost Value = { ℕ };
 
     ghost view = { λ b. b.jobs };
 
-    ghost invariant = { λ b. AreReady b.jobs b.library × AreAnswered b.sources };
+    ghost invariant = { λ b. (b.library.failed ≡ false → AreReady b.jobs b.library) × AreAnswered b.sources × AreShort b.sources };
 }
 
 impl Bench {
     /// A library with nothing in it but so many jobs.
     pub(crate) fn begin(asker: &Asker, jobs: u32) -> Result<Bench, AllocError> {
-        // A library in which jobs have begun and nothing else is sound.
-        each_call_leaves_a_sound_library();
+        // A sound library in which its first jobs begin stays sound.
+        jobs_begin_in_a_sound_library();
         let sources = asker.sources()?;
-        let store = MemoryStore::new(asker.alloc());
-        let mut library = Library::empty(asker.alloc(), store);
+        let mut library = made_library(asker.alloc())?;
         match begin_jobs(&mut library, asker.job(), jobs) {
             Ok(()) => Ok(Bench {
                 library,
@@ -54,18 +54,22 @@ impl Bench {
         }
     }
 
-    /// Makes a call of a job.
-    fn ask(&mut self, job: u32, request: &PlainRequest) -> Reply
+    /// Makes a call of a job, and answers whether it was done.
+    fn ask(&mut self, job: u32, request: &PlainRequest) -> bool
         requires { (1 ≤ job) × (job ≤ self.old) }
         ensures { self.new ≡ self.old }
     {
-        call(
+        if self.library.failed() {
+            return false;
+        }
+        let reply = call(
             &mut self.library,
             job,
             0,
             &self.sources,
             request.as_request(),
-        )
+        );
+        is_done(&reply)
     }
 
     /// Makes calls of a job in order up to the first that is refused, and counts those before it. A job that hasn't begun makes none.
@@ -74,8 +78,7 @@ impl Bench {
             return 0;
         }
         for (done, request) in requests.iter().enumerate() {
-            let reply = self.ask(job, request);
-            if !is_done(&reply) {
+            if !self.ask(job, request) {
                 return done;
             }
         }
@@ -93,9 +96,23 @@ impl Bench {
     }
 }
 
+/// A library with nothing in it, over a store in memory.
+fn made_library(alloc: Global) -> Result<Library<MemoryStore>, AllocError>
+    ensures { IfOk result (λ library. HasBegun 0 library) }
+{
+    let mut store = MemoryStore::new(alloc);
+    if format_library(alloc, &mut store).is_err() {
+        return Err(AllocError);
+    }
+    match open_library(alloc, store) {
+        Ok(library) => Ok(library),
+        Err(_) => Err(AllocError),
+    }
+}
+
 /// Begins so many jobs of one name.
 fn begin_jobs(library: &mut Library<MemoryStore>, name: &Name, jobs: u32) -> Result<(), AllocError>
-    requires { Stands library.old empty_library }
+    requires { HasBegun 0 library.old }
     ensures { OnOk result (HasBegun jobs library.new) }
 {
     for _ in 0..jobs {

@@ -1,6 +1,7 @@
 //! The requests that are made, on one file and views of it.
 ghost use Rattle.std.specs.Prelude.{◌≡◌, false, IfOk, IsTrue};
 ghost use Rattle.answered_sources.specs.Answered.{AreAnswered};
+ghost use Rattle.deposited_entries.specs.Deposits.{AreShort};
 ghost use Rattle.built_requests.specs.Built.{is_built};
 ghost use Rattle.library_model.specs.Ending.{is_end_job};
 
@@ -35,6 +36,9 @@ const VIEW: &str = "     A          R BENCHVR                   PFILE(BENCH)
 /// What a view has besides that selects: numbers below one of nine digits, whose last comes behind this. All records are, but no two
 /// views with different digits have one path.
 const SELECTED: &str = "     A          S NUMBER                    COMP(LT 99999999";
+
+/// No source is longer, in bytes.
+const LONGEST_SOURCE: usize = 1_000;
 
 /// The last digits of the views that select.
 const DIGITS: &[u8] = b"0123456789";
@@ -108,7 +112,8 @@ impl Asker {
 
     /// The sources of the file and of its views.
     pub(crate) fn sources(&self) -> Result<Sources, AllocError>
-        ensures { IfOk result (λ sources. AreAnswered sources) }
+        ensures answered { IfOk result (λ sources. AreAnswered sources) }
+        ensures short { IfOk result (λ sources. AreShort sources) }
     {
         let mut sources = Sources::new(self.alloc);
         self.add_source(&mut sources, self.name, SOURCE.as_bytes())?;
@@ -124,8 +129,12 @@ impl Asker {
     }
 
     fn add_source(&self, sources: &mut Sources, name: Name, text: &[u8]) -> Result<(), AllocError>
-        ensures { AreAnswered sources.old → AreAnswered sources.new }
+        ensures answered { AreAnswered sources.old → AreAnswered sources.new }
+        ensures short { AreShort sources.old → AreShort sources.new }
     {
+        if text.len() > LONGEST_SOURCE {
+            return Ok(());
+        }
         let text = SourceText::from_slice(self.alloc, text)?;
         add_answered(self.alloc, sources, NamedSource { name, text })
     }

@@ -13,27 +13,32 @@ pub fn words_help(alloc: Global, words: &[String]) -> Result<HelpText, AllocErro
     Ok(help)
 }
 
-/// The commands that are there so far.
-#[derive(Clone, Copy)]
-enum Command {
-    Run,
-    Serial,
-}
+/// The commands.
+const COMMANDS: [&[u8]; 4] = [b"INZ", b"RUN", b"SERIAL", b"DSP"];
 
 /// The command that a word is.
-fn command_of(word: &[u8]) -> Option<Command> {
-    if word == b"RUN".as_slice() {
-        Some(Command::Run)
-    } else if word == b"SERIAL".as_slice() {
-        Some(Command::Serial)
-    } else {
-        None
+fn command_of(word: &[u8]) -> Option<&'static [u8]> {
+    for command in COMMANDS {
+        if word == command {
+            return Some(command);
+        }
     }
+    None
+}
+
+/// The command that a word is in small letters.
+fn small_command(word: &[u8]) -> Option<&'static [u8]> {
+    for command in COMMANDS {
+        if is_in_small_letters(word, command) {
+            return Some(command);
+        }
+    }
+    None
 }
 
 fn words_hint(words: &[String]) -> Option<Hint<'_>> {
     match words {
-        [] => Some(Hint::Plain(b"type RUN or SERIAL, and the folder of the library")),
+        [] => Some(Hint::Plain(b"type INZ, RUN, SERIAL or DSP, and the folder of the library")),
         [first, others @ ..] => match command_of(first.as_bytes()) {
             Some(command) => folder_hint(command, others),
             None => Some(command_hint(first.as_bytes())),
@@ -43,22 +48,20 @@ fn words_hint(words: &[String]) -> Option<Hint<'_>> {
 
 /// What is wrong with a first word that is no command.
 fn command_hint(word: &[u8]) -> Hint<'_> {
-    if is_in_small_letters(word, b"RUN") {
-        Hint::Plain(b"RUN has capital letters")
-    } else if is_in_small_letters(word, b"SERIAL") {
-        Hint::Plain(b"SERIAL has capital letters")
-    } else {
-        Hint::Word(b"the first word is RUN or SERIAL, and not ", word, b"")
+    match small_command(word) {
+        Some(command) => Hint::Word(b"", command, b" has capital letters"),
+        None => Hint::Word(
+            b"the first word is INZ, RUN, SERIAL or DSP, and not ",
+            word,
+            b"",
+        ),
     }
 }
 
 /// What is wrong with the words after the command.
-fn folder_hint(command: Command, words: &[String]) -> Option<Hint<'_>> {
+fn folder_hint<'a>(command: &'static [u8], words: &'a [String]) -> Option<Hint<'a>> {
     match words {
-        [] => Some(match command {
-            Command::Run => Hint::Plain(b"type the folder of the library after RUN"),
-            Command::Serial => Hint::Plain(b"type the folder of the library after SERIAL"),
-        }),
+        [] => Some(Hint::Word(b"type the folder of the library after ", command, b"")),
         [folder] => match folder.as_bytes() {
             [] => Some(Hint::Plain(b"the folder's name is empty")),
             [b'-', ..] => Some(Hint::Word(

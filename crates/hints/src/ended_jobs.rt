@@ -10,9 +10,9 @@ use text_lines::lines::split_line;
 
 /// The line of a call in a listing: its job, and its request with the reply.
 #[derive(Clone, Copy)]
-struct CallLine<'a> {
+pub(crate) struct CallLine<'a> {
     job: &'a [u8],
-    answered: &'a [u8],
+    pub(crate) answered: &'a [u8],
 }
 
 /// How a job ended early.
@@ -40,7 +40,7 @@ pub fn jobs_help(alloc: Global, input: &[u8], listing: &[u8]) -> Result<HelpText
 }
 
 /// The parts of a line: number, job, timestamp, and the rest.
-fn call_line(line: &[u8]) -> CallLine<'_> {
+pub(crate) fn call_line(line: &[u8]) -> CallLine<'_> {
     let (_, rest) = cut_at(line, b' ');
     let (job, rest) = cut_at(rest, b' ');
     let (_, answered) = cut_at(rest, b' ');

@@ -17,6 +17,8 @@ mod names;
 mod parameters;
 mod script;
 mod statements;
+mod stores;
+mod unjournaled;
 mod visible;
 mod words;
 
@@ -24,4 +26,6 @@ pub use command_line::{terminal_help, words_help};
 pub use ended_jobs::jobs_help;
 pub use help_text::HelpText;
 pub use script::{line_help, script_help};
+pub use stores::{FolderTrouble, folder_help};
+pub use unjournaled::unjournaled_help;
 pub use visible::MOST_SHOWN;

@@ -1,5 +1,5 @@
 //! Help for jobs that ended early, for words and for a terminal.
-use hints::{jobs_help, terminal_help, words_help};
+use hints::{FolderTrouble, folder_help, jobs_help, terminal_help, unjournaled_help, words_help};
 use std::alloc::{AllocError, Global};
 use std::process::Abort;
 use std::test::Fail;
@@ -60,18 +60,22 @@ fn ended_jobs(rt: HostRuntime) -> Result<(), Fail> {
 const WORDS: &[(&[&str], &str)] = &[
     (
         &[],
-        "hint: type RUN or SERIAL, and the folder of the library\n",
+        "hint: type INZ, RUN, SERIAL or DSP, and the folder of the library\n",
     ),
     (&["RUN"], "hint: type the folder of the library after RUN\n"),
     (
         &["SERIAL"],
         "hint: type the folder of the library after SERIAL\n",
     ),
+    (&["INZ"], "hint: type the folder of the library after INZ\n"),
+    (&["DSP"], "hint: type the folder of the library after DSP\n"),
     (&["run", "lib"], "hint: RUN has capital letters\n"),
+    (&["inz", "lib"], "hint: INZ has capital letters\n"),
+    (&["Dsp", "lib"], "hint: DSP has capital letters\n"),
     (&["Serial", "lib"], "hint: SERIAL has capital letters\n"),
     (
         &["lib"],
-        "hint: the first word is RUN or SERIAL, and not lib\n",
+        "hint: the first word is INZ, RUN, SERIAL or DSP, and not lib\n",
     ),
     (&["RUN", ""], "hint: the folder's name is empty\n"),
     (
@@ -84,6 +88,52 @@ const WORDS: &[(&[&str], &str)] = &[
     ),
     (&["RUN", "lib"], ""),
     (&["SERIAL", "lib"], ""),
+    (&["INZ", "lib"], ""),
+    (&["DSP", "lib"], ""),
+];
+
+/// A listing, and what is said of files that aren't journaled.
+const UNJOURNALED: &[(&[u8], &str)] = &[
+    (
+        b"HISTORY\n1 J1 0 CRTPF FILE(CUST) SRC(CUST) => OK\n2 J1 1 OPNDBF FILE(CUST) OPTION(*ALL) MBR(CUST) OPNID(CUST) COMMIT(*NO) ACCPTH(*FILE) => OK\n3 J1 2 ENDJOB REASON(*NORMAL) LINE(0) => OK\nEND 3\n",
+        "hint: file CUST isn't journaled: its records end with the run; STRJRNPF before the first of them keeps them\n",
+    ),
+    (
+        b"HISTORY\n1 J1 0 CRTPF FILE(CUST) SRC(CUST) => OK\n2 J1 1 STRJRNPF FILE(CUST) MBR(CUST) IMAGES(*AFTER) => OK\n3 J1 2 OPNDBF FILE(CUST) OPTION(*ALL) MBR(CUST) OPNID(CUST) COMMIT(*NO) ACCPTH(*FILE) => OK\nEND 3\n",
+        "",
+    ),
+    (
+        b"HISTORY\n1 J1 0 CRTPF FILE(CUST) SRC(CUST) => OK\n2 J1 1 OPNDBF FILE(CUST) OPTION(*INP) MBR(CUST) OPNID(CUST) COMMIT(*NO) ACCPTH(*FILE) => OK\nEND 2\n",
+        "",
+    ),
+    (
+        b"HISTORY\n1 J1 0 CRTPF FILE(CUST) SRC(CUST) => OK\n2 J1 1 OPNDBF FILE(CUST) OPTION(*ALL) MBR(CUST) OPNID(CUST) COMMIT(*NO) ACCPTH(*FILE) => OK\n3 J1 2 CLOF OPNID(CUST) => OK\n4 J1 3 DLTF FILE(CUST) => OK\nEND 4\n",
+        "",
+    ),
+    (
+        b"HISTORY\n1 J1 0 CRTPF FILE(CUST) SRC(CUST) => NameExists NAME(CUST)\n2 J1 1 OPNDBF FILE(CUST) OPTION(*ALL) MBR(CUST) OPNID(CUST) COMMIT(*NO) ACCPTH(*FILE) => OK\nEND 2\n",
+        "",
+    ),
+];
+
+/// What a folder's trouble is, and what to do about it.
+const TROUBLES: &[(FolderTrouble, &str)] = &[
+    (
+        FolderTrouble::NoLibrary,
+        "hint: there is no library in that folder; ibmi INZ and the folder make one\n",
+    ),
+    (
+        FolderTrouble::Damaged { area: 66 },
+        "hint: the file area66 of the folder is not as a library leaves it, and a stop alone never does that; nothing was written\nhint: keep a copy of the folder as it is, and put back one that was copied while no run had it\n",
+    ),
+    (
+        FolderTrouble::Fault,
+        "hint: the folder could not be read or written: look for its rights and for room on the disk\nhint: what was acknowledged is there at the next run; ibmi DSP and the folder show it\n",
+    ),
+    (
+        FolderTrouble::Library,
+        "hint: there is a library in that folder already, and it stays as it is; take another folder, or RUN\n",
+    ),
 ];
 
 fn strings(alloc: Global, words: &[&str]) -> Result<Vec<String>, AllocError> {
@@ -110,6 +160,40 @@ fn check_words(
 #[test]
 fn words(rt: HostRuntime) -> Result<(), Fail> {
     check_words(&rt, rt.alloc(), WORDS)
+}
+
+fn check_troubles(
+    rt: &impl Abort,
+    alloc: Global,
+    rows: &[(FolderTrouble, &'static str)],
+) -> Result<(), Fail> {
+    for &(trouble, wanted) in rows {
+        let help = folder_help(alloc, trouble)?;
+        assert_eq!(rt; help.as_bytes(), wanted.as_bytes(), "{wanted}");
+    }
+    Ok(())
+}
+
+fn check_unjournaled(
+    rt: &impl Abort,
+    alloc: Global,
+    rows: &[(&'static [u8], &'static str)],
+) -> Result<(), Fail> {
+    for &(listing, wanted) in rows {
+        let help = unjournaled_help(alloc, listing)?;
+        assert_eq!(rt; help.as_bytes(), wanted.as_bytes(), "{wanted}");
+    }
+    Ok(())
+}
+
+#[test]
+fn unjournaled(rt: HostRuntime) -> Result<(), Fail> {
+    check_unjournaled(&rt, rt.alloc(), UNJOURNALED)
+}
+
+#[test]
+fn troubles(rt: HostRuntime) -> Result<(), Fail> {
+    check_troubles(&rt, rt.alloc(), TROUBLES)
 }
 
 #[test]

@@ -1,6 +1,9 @@
 //! Help on standard error, below the text of a status. Where it can't be made, nothing is printed.
 use crate::kept::Kept;
-use hints::{HelpText, jobs_help, line_help, script_help, terminal_help, words_help};
+use hints::{
+    FolderTrouble, HelpText, folder_help, jobs_help, line_help, script_help, terminal_help,
+    words_help,
+};
 use ibmi_batch::status::Status;
 use std::alloc::{AllocError, Global};
 
@@ -18,15 +21,14 @@ pub(crate) fn say_help<R: Eprint>(rt: &R, alloc: Global, status: Status, remains
         Status::Words => say(rt, words_help(alloc, remains.words)),
         Status::Script { line } => say_script_help(rt, alloc, line, remains),
         Status::JobsEnded => say_jobs_help(rt, alloc, remains),
-        Status::Done
-        | Status::ReadFault
-        | Status::TooLong
-        | Status::NotALibrary
-        | Status::Damaged { .. }
-        | Status::StoreFault
-        | Status::WriteFault
-        | Status::NoMemory
-        | Status::Exists => {}
+        Status::NotALibrary => say(rt, folder_help(alloc, FolderTrouble::NoLibrary)),
+        Status::Damaged { area, .. } => {
+            say(rt, folder_help(alloc, FolderTrouble::Damaged { area }));
+        }
+        Status::StoreFault => say(rt, folder_help(alloc, FolderTrouble::Fault)),
+        Status::Exists => say(rt, folder_help(alloc, FolderTrouble::Library)),
+        Status::Done => say_unjournaled_help(rt, alloc, remains),
+        Status::ReadFault | Status::TooLong | Status::WriteFault | Status::NoMemory => {}
     }
 }
 
@@ -41,11 +43,22 @@ fn say_jobs_help<R: Eprint>(rt: &R, alloc: Global, remains: &Remains<'_>) {
     if let (Some(input), Some(listing)) = (remains.input.whole(), remains.listing.whole()) {
         say(rt, jobs_help(alloc, input, listing));
     }
+    say_unjournaled_help(rt, alloc, remains);
+}
+
+fn say_unjournaled_help<R: Eprint>(rt: &R, alloc: Global, remains: &Remains<'_>) {
+    if let Some(listing) = remains.listing.whole() {
+        say(rt, unjournaled_help(alloc, listing));
+    }
 }
 
 /// Says that another run has the library's folder.
-pub(crate) fn say_in_use<R: Eprint>(rt: &R, folder: &str) {
-    let _ = eprintln!(rt; "the library in {folder:?} is in use by another run: try again when that one has ended");
+pub(crate) fn say_in_use<R: Eprint>(rt: &R, words: &[String]) {
+    if let [_, folder] = words {
+        let _ = eprintln!(rt;
+            "the library in {folder:?} is in use by another run: try again when that one has ended"
+        );
+    }
 }
 
 /// Says what to type, where words that are a run have a terminal as their input.

@@ -43,15 +43,26 @@ fn main(rt: HostRuntime) -> ExitCode {
     let mut input = KeptSource::new(rt.alloc(), StandardInput::new(reader));
     let mut output = KeptSink::new(rt.alloc(), StandardOutput::new(io::writer(&rt)));
     let clock = SystemClock::new(clock);
-    let status = run_over(&rt, files, words.as_slice(), &mut input, &mut output, clock);
-    let code = end(&rt, status);
+    let ended = run_over(&rt, files, words.as_slice(), &mut input, &mut output, clock);
+    let code = end(&rt, ended.status);
+    if ended.in_use {
+        say_in_use(&rt, words.as_slice());
+        return code;
+    }
     let remains = Remains {
         words: words.as_slice(),
         input: input.kept(),
         listing: output.kept(),
     };
-    say_help(&rt, rt.alloc(), status, &remains);
+    say_help(&rt, rt.alloc(), ended.status, &remains);
     code
+}
+
+/// What a run came to.
+struct Ended {
+    status: Status,
+    /// Another process has the folder.
+    in_use: bool,
 }
 
 /// Does what the words say, over the folder that they name. Words that are no command touch no folder.
@@ -61,32 +72,40 @@ fn run_over<
     I: Source,
     O: Sink,
     C: Clock + Send + Drop,
->(
-    rt: &R,
-    files: F,
-    words: &[String],
-    input: &mut I,
-    output: &mut O,
-    clock: C,
-) -> Status {
+>(rt: &R, files: F, words: &[String], input: &mut I, output: &mut O, clock: C) -> Ended {
     let alloc = rt.alloc();
     let folder = match words {
         [_, folder] if are_command_words(words) => folder,
-        _ => return run(rt, words, MemoryStore::new(alloc), input, output, clock),
+        _ => {
+            let status = run(rt, words, MemoryStore::new(alloc), input, output, clock);
+            return Ended {
+                status,
+                in_use: false,
+            };
+        }
     };
     match FolderStore::open(files, folder.as_str()) {
-        Ok(store) => run(rt, words, store, input, output, clock),
-        Err(OpenError::InUse) => {
-            say_in_use(rt, folder.as_str());
-            Status::StoreFault
-        }
-        Err(OpenError::Refused(error)) => {
-            if error.kind() == ErrorKind::OutOfMemory {
-                Status::NoMemory
-            } else {
-                Status::StoreFault
-            }
-        }
+        Ok(store) => Ended {
+            status: run(rt, words, store, input, output, clock),
+            in_use: false,
+        },
+        Err(OpenError::InUse) => Ended {
+            status: Status::StoreFault,
+            in_use: true,
+        },
+        Err(OpenError::Refused(error)) => Ended {
+            status: without_folder(&error),
+            in_use: false,
+        },
+    }
+}
+
+/// What a run comes to whose folder can't be opened.
+fn without_folder(error: &io::Error) -> Status {
+    if error.kind() == ErrorKind::OutOfMemory {
+        Status::NoMemory
+    } else {
+        Status::StoreFault
     }
 }
 
@@ -97,14 +116,7 @@ fn run<
     I: Source,
     O: Sink,
     C: Clock + Send + Drop,
->(
-    rt: &R,
-    words: &[String],
-    store: S,
-    input: &mut I,
-    output: &mut O,
-    clock: C,
-) -> Status {
+>(rt: &R, words: &[String], store: S, input: &mut I, output: &mut O, clock: C) -> Status {
     let alloc = rt.alloc();
     let (status, _store, _clock) = if are_run_words(words) {
         program(rt, alloc, words, store, input, output, clock, &OpenGate)

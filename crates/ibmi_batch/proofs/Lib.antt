@@ -1,3 +1,4 @@
 mod OutcomeLemmas
 mod RunLemmas
-mod SourceLemmas
+mod ShortLemmas
+mod WordLemmas

@@ -70,8 +70,15 @@ module _ {S C : Type 0} (tells : Type 0) (disk : S → Disk) (gives : C → ℕ 
   pub session-at : IsAt later.library session-outcome
   session-at = led.at
 
+  -- where it fails behind them the store's count of faults rose
+  pub session-rose : first.library.failed ≡ false → later.library.failed ≡ true → Rose (disk first.library.store).faults (disk later.library.store).faults
+  session-rose alive failed = elim (has.cause failed) [
+    | inl before ↦ absurd cc
+    | inr rose ↦ rose
+  ]
+
   -- with what was written
-  pub session-ran : (status : Status) (writing : Writing) → HasRun status first.scripts made session-outcome writing
+  pub session-ran : (status : Status) (writing : Writing) → HasRun status later.scripts later.calls session-outcome writing
       → SessionRan tells (disk first.library.store) (disk later.library.store) status words first.scripts from (AreGiven gives first.clock later.clock) writing
   session-ran status writing ran = record {
     calls = made;
@@ -82,7 +89,8 @@ module _ {S C : Type 0} (tells : Type 0) (disk : S → Disk) (gives : C → ℕ 
     timestamps = has.given;
     moments = led.moments;
     acknowledged = led.now;
-    ran = ran;
+    ran = subst (λ (scripts : Scripts). HasRun status scripts made session-outcome writing) has.scripts
+        (subst (λ (calls : List Call). HasRun status later.scripts calls session-outcome writing) all ran);
   }
 
 -- ---- over a library that was opened

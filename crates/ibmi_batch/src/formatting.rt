@@ -11,11 +11,10 @@ pub(crate) fn make_library<S: Store>(alloc: Global, store: S) -> (Status, S)
     ensures { Makes result.0 (record { tells = S.tells; old = S.disk store; new = S.disk result.1 }) }
 {
     let mut store = store;
-    let status = match format_library(alloc, &mut store) {
-        Ok(()) => Status::Done,
-        Err(FormatFault::Exists) => Status::Exists,
-        Err(FormatFault::StoreFault) => Status::StoreFault,
-        Err(FormatFault::NoMemory) => Status::NoMemory,
-    };
-    (status, store)
+    match format_library(alloc, &mut store) {
+        Ok(()) => (Status::Done, store),
+        Err(FormatFault::Exists) => (Status::Exists, store),
+        Err(FormatFault::StoreFault) => (Status::StoreFault, store),
+        Err(FormatFault::NoMemory) => (Status::NoMemory, store),
+    }
 }

@@ -7,6 +7,7 @@ ghost use Rattle.ibmi_batch.specs.Parts.{AreRunnable, IsUnread};
 use crate::limits::MOST_INPUT;
 use crate::status::Status;
 use input_reader::input::{InputError, read_input};
+use input_reader::laws::sources_are_no_longer_than_their_input;
 use input_scripts::Scripts;
 use std::alloc::Global;
 use store_model::{ReadError, Source, read_to_end};
@@ -18,6 +19,8 @@ pub(crate) fn read_scripts<I: Source>(alloc: Global, input: &mut I) -> Result<Sc
     ensures runnable { IfOk result (λ scripts. AreRunnable scripts) }
     ensures refused { IfErr result (λ status. IsUnread status I.tells (I.left input.old) (I.left input.new) (Rose (I.faults input.old) (I.faults input.new))) }
 {
+    // Its sources fit into the journal.
+    sources_are_no_longer_than_their_input();
     let bytes = match read_to_end(alloc, input, MOST_INPUT) {
         Ok(bytes) => bytes,
         Err(ReadError::Fault) => return Err(Status::ReadFault),

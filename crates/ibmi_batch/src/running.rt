@@ -8,6 +8,7 @@ ghost use Rattle.job_runner.specs.Moments.{StandsForced};
 ghost use Rattle.job_runner.specs.Session.{HasMade};
 ghost use Rattle.job_runner.specs.Turns.{AreInTurn};
 ghost use Rattle.library_model.specs.declared.calls.Call.{Call};
+ghost use Rattle.library_core.specs.Stands.{IsAt};
 ghost use Rattle.library_steps.specs.State.{State};
 ghost use Rattle.library_steps.specs.History.{Outcome};
 ghost use Rattle.listing.specs.HistoryListing.{listing};
@@ -70,15 +71,29 @@ fn run_session<S: Store, O: Sink, C: Clock>(
     ensures cause { result.0 ≡ Status.StoreFault → session.library.failed ≡ false → Rose (S.disk session.library.store).faults (S.disk result.1).faults }
 {
     let ran = run_jobs(alloc, words, &mut session);
-    let status = if session.failed() {
-        write_cut_short(alloc, &session, out)
-    } else if ran == Ran::Done {
-        write_at_end(alloc, &session, out)
-    } else {
-        Status::NoMemory
-    };
+    let status = write_outcome(alloc, ran, &session, out);
     let (store, clock) = session.into_parts();
     (status, store, clock)
+}
+
+/// Writes the listing of a session whose jobs have all ended, or that found the store at fault.
+fn write_outcome<S: Store, O: Sink, C: Clock>(
+    alloc: Global,
+    ran: Ran,
+    session: &Session<S, C>,
+    out: &mut O,
+) -> Status
+    requires { ran ≡ Ran.Done → HaveEnded session.now.scripts session.now.calls }
+    ensures ran { (outcome : Outcome) → IsAt session.now.library outcome → HasRun result session.now.scripts session.now.calls outcome (record { tells = O.tells; old = O.taken out.old; new = O.taken out.new; rose = Rose (O.faults out.old) (O.faults out.new) }) }
+    ensures cause { result ≡ Status.StoreFault → session.now.library.failed ≡ true }
+{
+    if session.failed() {
+        return write_cut_short(alloc, session, out);
+    }
+    match ran {
+        Ran::Done => write_at_end(alloc, session, out),
+        Ran::Stopped | Ran::NoMemory => Status::NoMemory,
+    }
 }
 
 /// Runs the jobs of a session, in the order that the words ask for.

@@ -431,6 +431,22 @@ fn line_of(status: Status) -> u32 {
     }
 }
 
+/// A store with a library in which nothing is.
+fn made(alloc: Global) -> Result<MemoryStore, AllocError> {
+    let words = words_of(alloc, &["INZ", "lib"])?;
+    let mut input = MemorySource::over(alloc, b"")?;
+    let mut out = MemorySink::new(alloc);
+    let (_, store, _) = run_alone(
+        alloc,
+        words.as_slice(),
+        MemoryStore::new(alloc),
+        &mut input,
+        &mut out,
+        StepClock::new(),
+    );
+    Ok(store)
+}
+
 fn row_holds(rt: &impl Abort, alloc: Global, row: &Row) -> Result<(), AllocError> {
     let words = words_of(alloc, row.words)?;
     let mut input = MemorySource::over(alloc, row.input.as_bytes())?;
@@ -440,7 +456,7 @@ fn row_holds(rt: &impl Abort, alloc: Global, row: &Row) -> Result<(), AllocError
     let (status, _, _) = run_alone(
         alloc,
         words.as_slice(),
-        MemoryStore::new(alloc),
+        made(alloc)?,
         &mut input,
         &mut out,
         StepClock::new(),
@@ -466,7 +482,7 @@ fn refusal(rt: &impl Abort, alloc: Global, bytes: &[u8]) -> Result<Status, Alloc
     let (status, _, _) = run_alone(
         alloc,
         words.as_slice(),
-        MemoryStore::new(alloc),
+        made(alloc)?,
         &mut input,
         &mut out,
         StepClock::new(),
@@ -513,7 +529,7 @@ fn fault_of(alloc: Global, text: &str) -> Result<u32, AllocError> {
     let (status, _, _) = run_alone(
         alloc,
         words.as_slice(),
-        MemoryStore::new(alloc),
+        made(alloc)?,
         &mut input,
         &mut out,
         StepClock::new(),
@@ -563,7 +579,7 @@ fn first_input_runs_under_a_runtime(rt: HostRuntime) -> Result<(), Fail> {
         &rt,
         alloc,
         words.as_slice(),
-        MemoryStore::new(alloc),
+        made(alloc)?,
         &mut input,
         &mut out,
         StepClock::new(),
@@ -607,7 +623,7 @@ fn fault_in_the_middle_leaves_the_first_part(rt: HostRuntime) -> Result<(), Fail
     let (status, _, _) = run_alone(
         alloc,
         words.as_slice(),
-        MemoryStore::new(alloc),
+        made(alloc)?,
         &mut input,
         &mut out,
         StepClock::new(),

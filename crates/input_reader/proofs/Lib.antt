@@ -3,3 +3,4 @@ mod InputLemmas
 mod JobLemmas
 mod LeastLemmas
 mod ScheduleLemmas
+mod SourceLengths

@@ -3,6 +3,7 @@
 
 pub mod input;
 mod jobs;
+pub mod laws;
 mod schedules;
 mod sources;
 mod unanswered;

@@ -17,6 +17,7 @@ use store_model::Store;
 pub fn format_library<S: Store>(alloc: Global, store: &mut S) -> Result<(), FormatFault>
     ensures formatted { OnOk result (S.tells → IsEmptyLibrary (S.disk store.new).seen) }
     ensures durable { OnOk result (S.tells → (areas : Areas) → May (S.disk store.new) areas → IsEmptyLibrary areas) }
+    ensures empty { OnOk result (S.tells → (S.disk store.old).seen ROOT_AREA ≡ []) }
     ensures occupied { IsErrOf result FormatFault.Exists → S.tells → (S.disk store.old).seen ROOT_AREA ≢ [] }
     ensures untouched { IsErrOf result FormatFault.Exists → Stays (S.disk store.old) (S.disk store.new) }
     ensures kept { S.tells → (S.disk store.old).seen ROOT_AREA ≢ [] → Stays (S.disk store.old) (S.disk store.new) }

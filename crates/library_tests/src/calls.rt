@@ -4,8 +4,9 @@ ghost use Rattle.std.specs.Prelude.{◌≡◌, false, IfSome, IsTrue};
 ghost use Rattle.answered_sources.specs.Answered.{AreAnswered};
 ghost use Rattle.built_requests.specs.Built.{is_built};
 ghost use Rattle.library_model.specs.Ending.{is_end_job};
-ghost use Rattle.library_steps.specs.State.{empty_library};
+ghost use Rattle.deposited_entries.specs.Deposits.{AreShort};
 ghost use Rattle.library_core.specs.Stands.{IsReady};
+ghost use Rattle.library_tests.specs.Fresh.{IsFresh};
 
 use crate::answers::{Answer, is_answer};
 use crate::asks::{Ask, By, named, request_of};
@@ -17,19 +18,27 @@ use crate::undone::{AFTER_IMAGES, UNDONE};
 use crate::views::{MERGED, ONE_EACH, PICKED, SHOWN, UNIQUE, WAITING};
 use field_types::names::Name;
 use input_reader::input::read_input;
+use input_reader::laws::sources_are_no_longer_than_their_input;
 use input_scripts::Scripts;
+use journal_opening::format_library;
 use library_core::library::{Library, call};
 use library_model::replies::Reply;
 use library_model::requests::{EndJob, EndReason, Request};
 use library_model::sources::Sources;
-use sound_histories::each_call_leaves_a_sound_library;
+use opened_library::open_library;
+use run_laws::jobs_begin_in_a_sound_library;
 use std::alloc::Global;
 use std::process::Abort;
 use store_model::MemoryStore;
 
 fn sources_of(alloc: Global) -> Option<Sources>
-    ensures { IfSome result (λ sources. AreAnswered sources) }
+    ensures answered { IfSome result (λ sources. AreAnswered sources) }
+    ensures short { IfSome result (λ sources. AreShort sources) }
 {
+    sources_are_no_longer_than_their_input();
+    if SOURCES.len() > 100_000 {
+        return None;
+    }
     let Scripts {
         sources,
         names: _,
@@ -46,14 +55,25 @@ struct Jobs {
     second: u32,
 }
 
+/// A library with nothing in it, over a store in memory.
+fn made_library(alloc: Global) -> Option<Library<MemoryStore>>
+    ensures { IfSome result (λ library. IsFresh library) }
+{
+    let mut store = MemoryStore::new(alloc);
+    format_library(alloc, &mut store).ok()?;
+    match open_library(alloc, store) {
+        Ok(library) => Some(library),
+        Err(_) => None,
+    }
+}
+
 fn begin_jobs(library: &mut Library<MemoryStore>, name: &Name) -> Option<Jobs>
-    requires alive { library.old.failed ≡ false }
-    requires empty { library.old.state ≡ empty_library }
+    requires { IsFresh library.old }
     ensures first { IfSome result (λ jobs. IsReady jobs.first library.new) }
     ensures second { IfSome result (λ jobs. IsReady jobs.second library.new) }
 {
-    // A library in which jobs have begun and nothing else is sound.
-    each_call_leaves_a_sound_library();
+    // A sound library in which its first jobs begin stays sound.
+    jobs_begin_in_a_sound_library();
     let Ok(first) = library.begin_job(name) else {
         return None;
     };
@@ -75,8 +95,9 @@ fn ask_library(
     requires built { IsTrue (is_built request.now) }
     requires goes_on { is_end_job request.now ≡ false }
     requires answered { AreAnswered sources.now }
-    ensures first { IsReady jobs.first library.new }
-    ensures second { IsReady jobs.second library.new }
+    requires short { AreShort sources.now }
+    ensures first { library.new.failed ≡ false → IsReady jobs.first library.new }
+    ensures second { library.new.failed ≡ false → IsReady jobs.second library.new }
 {
     match by {
         By::First => call(library, jobs.first, 0, sources, request),
@@ -88,7 +109,9 @@ fn check_rows(rt: &impl Abort, alloc: Global, table: &str, rows: &[(By, Ask, Ans
     let (Some(name), Some(sources)) = (named("J1"), sources_of(alloc)) else {
         panic!(rt; "no name or no sources");
     };
-    let mut library = Library::empty(alloc, MemoryStore::new(alloc));
+    let Some(mut library) = made_library(alloc) else {
+        panic!(rt; "no library is made");
+    };
     let Some(jobs) = begin_jobs(&mut library, &name) else {
         panic!(rt; "no jobs begin");
     };
@@ -97,6 +120,9 @@ fn check_rows(rt: &impl Abort, alloc: Global, table: &str, rows: &[(By, Ask, Ans
             panic!(rt; "no request in row {row} of {table}");
         };
         let reply = ask_library(&mut library, jobs, *by, &sources, &request);
+        if library.failed() {
+            panic!(rt; "the store is at fault in row {row} of {table}");
+        }
         assert!(rt; is_answer(&reply, *answer), "row {row} of {table}");
     }
     let end = Request::EndJob(EndJob {

@@ -6,14 +6,18 @@ use Rattle.entry_codec.specs.declared.entries.Entry.{Entry}
 use Rattle.checkpoint.specs.declared.layout.TheConstants.{ROOT_AREA}
 use Rattle.receiver_chain.specs.declared.numbers.TheConstants.{FIRST_RECEIVER}
 use Rattle.journal_model.specs.Journal.{CanReplayJournal}
+use Rattle.journal_replay.specs.Standing.{Standing}
+use Rattle.journal_book.specs.Book.{BookState, Holds}
 use Rattle.journal_book.specs.Kept.{SpellEntries}
-use Rattle.journal_opening.specs.Journals.{SpellJournal, journal_with}
+use Rattle.journal_opening.specs.Journals.{IsLeftBy, SpellJournal, journal_with}
 use Rattle.journal_opening.specs.declared.fault.OpenFault.{OpenFault}
 use Rattle.journal_opening.specs.declared.fault.OpenFault.TheVariants.{NotALibrary, Damaged, StoreFault, NoMemory}
 use Rattle.restart_model.specs.Sources.{descriptions}
-use Rattle.restart_model.specs.Libraries.{library_restarted, restart_job}
+use Rattle.restart_model.specs.Libraries.{library_left, library_restarted, restart_job}
 use Rattle.restarted_journal.specs.Restarts.{MayRestart}
+use Rattle.library_steps.specs.declared.limits.TheConstants.{MOST_LIBRARY_BYTES}
 use Rattle.library_steps.specs.State.{State}
+use Rattle.library_steps.specs.Ranges.{library_bytes}
 use Rattle.joint_state.specs.Sound.{IsSound}
 use Rattle.library_core.specs.Parts.{LibraryOver}
 
@@ -48,3 +52,22 @@ IsNotOpened (Damaged area at) tells old new =
     Stays old new × (tells → old.seen ROOT_AREA ≢ []) × (tells → (entries : List Entry) → SpellJournal descriptions entries old.seen → ⊥)
 IsNotOpened StoreFault tells old new = Rose old.faults new.faults × Restarts tells old new
 IsNotOpened NoMemory tells old new = Restarts tells old new
+
+-- ---- behind a restart
+
+-- the book has these entries, the store holds them, where it tells, and this is what they leave; nothing waits
+pub record IsAtRest (tells : Type 0) (disk : Disk) (book : BookState) (entries : List Entry) (s : Standing) : Type 0 where
+  pub held : tells → Holds book entries disk
+  pub nothing_waits : book.waiting ≡ 0
+  pub receiver : book.chain.first ≡ FIRST_RECEIVER
+  pub left : IsLeftBy descriptions entries s
+
+-- the library is what these entries leave, with all of them on the disk
+pub record IsBuilt {S : Type 0} (tells : Type 0) (disk : Disk) (entries : List Entry) (library : LibraryOver S) : Type 0 where
+  pub attached : ℕ
+  pub state : library.state ≡ library_left (λ _. 0) attached (journal_with entries)
+  pub few : library_bytes library.state.members ≤ MOST_LIBRARY_BYTES
+  pub alive : library.failed ≡ false
+  pub all : library.book.forced ≡ length library.state.entries
+  pub receiver : library.book.chain.first ≡ FIRST_RECEIVER
+  pub left : tells → (areas : Areas) → May disk areas → SpellEntries FIRST_RECEIVER library.state.entries areas

@@ -1,15 +1,16 @@
 //! Opens the library that a store keeps, and trusts no byte. What it is, is in specs/Opened.antt.
-ghost use Rattle.std.specs.Prelude.{◌≡◌, IfOk, IfErr, IfSome};
+ghost use Rattle.std.specs.Prelude.{◌≡◌, IfOk, IfErr};
 ghost use Rattle.restart_model.specs.Libraries.{restart_job};
 ghost use Rattle.opened_library.specs.Opened.{IsNotOpened, IsOpenedLibrary};
 
+use crate::building::build_library;
 use described_journals::DataDescriptions;
 use field_types::names::Name;
 use journal_opening::OpenFault;
 use library_core::library::Library;
 use restart_drafts::By;
-use restarted_journal::{RestartedJournal, restart_journal};
-use restarted_library::restarted_contents;
+use restart_laws::laws::{descriptions_keep_lengths, restarted_libraries_are_sound};
+use restarted_journal::restart_journal;
 use std::alloc::Global;
 use store_model::Store;
 
@@ -19,11 +20,13 @@ pub fn open_library<S: Store>(alloc: Global, store: S) -> Result<Library<S>, (Op
     ensures opened { IfOk result (λ library. IsOpenedLibrary S.tells (S.disk store) (S.disk library.store) library) }
     ensures refused { IfErr result (λ refused. IsNotOpened refused.0 S.tells (S.disk store) (S.disk refused.1)) }
 {
+    descriptions_keep_lengths();
+    restarted_libraries_are_sound();
     let mut store = store;
     let by = DataDescriptions { alloc };
     match restart_journal(alloc, &mut store, &by, &restarter()) {
         Err(fault) => Err((fault, store)),
-        Ok(restarted) => build(alloc, store, restarted),
+        Ok(restarted) => build_library(alloc, store, restarted),
     }
 }
 
@@ -35,24 +38,5 @@ fn restarter() -> By
     By {
         job: Name::from_bytes(b"RESTART"),
         moment: 0,
-    }
-}
-
-/// The library of a journal that was restarted.
-fn build<S: Store>(
-    alloc: Global,
-    store: S,
-    restarted: RestartedJournal,
-) -> Result<Library<S>, (OpenFault, S)> {
-    let RestartedJournal {
-        journal,
-        entries,
-        replay,
-    } = restarted;
-    let mut journal = journal;
-    let attached = journal.attached();
-    match restarted_contents(alloc, entries, replay, attached) {
-        Ok(contents) => Ok(Library::over(store, journal, contents)),
-        Err(_) => Err((OpenFault::NoMemory, store)),
     }
 }

@@ -13,14 +13,26 @@ pub fn run<R: Files + AllocGlobal + Input + Print + Threads + Wait + Sync, C: Cl
     rt: &R,
     clock: C,
 ) -> io::Result<C> {
+    let making = words_of(rt.alloc(), &["INZ", "lib"])?;
     let words = words_of(rt.alloc(), &["SERIAL", "lib"])?;
     let mut input = StandardInput::new(rt.reader());
     let mut output = StandardOutput::new(fs::create(rt, "listing")?);
+    // The first command reads and writes nothing but the store.
+    let (_, store, clock) = program(
+        rt,
+        rt.alloc(),
+        making.as_slice(),
+        MemoryStore::new(rt.alloc()),
+        &mut input,
+        &mut output,
+        clock,
+        &OpenGate,
+    );
     let (status, _store, clock) = program(
         rt,
         rt.alloc(),
         words.as_slice(),
-        MemoryStore::new(rt.alloc()),
+        store,
         &mut input,
         &mut output,
         clock,

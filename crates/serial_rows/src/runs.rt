@@ -20,30 +20,41 @@ fn words_of(alloc: Global, words: &[&str]) -> Result<Vec<String>, AllocError> {
     Ok(out)
 }
 
-/// Runs an input by a command.
+/// Does a command with an input over a store, and hands the store back.
+fn run_over<R: Threads + Wait + Sync>(
+    rt: &R,
+    alloc: Global,
+    store: MemoryStore,
+    command: &str,
+    input: &str,
+) -> Result<(Outcome, MemoryStore), AllocError> {
+    let words = words_of(alloc, &[command, "lib"])?;
+    let mut input = MemorySource::over(alloc, input.as_bytes())?;
+    let mut listing = MemorySink::new(alloc);
+    let (status, store, _) = program(
+        rt,
+        alloc,
+        words.as_slice(),
+        store,
+        &mut input,
+        &mut listing,
+        StepClock::new(),
+        &OpenGate,
+    );
+    let status = status.number();
+    Ok((Outcome { status, listing }, store))
+}
+
+/// Runs an input by a command over a library in which nothing is.
 pub(crate) fn run<R: Threads + Wait + Sync>(
     rt: &R,
     alloc: Global,
     command: &str,
     input: &str,
 ) -> Result<Outcome, AllocError> {
-    let words = words_of(alloc, &[command, "lib"])?;
-    let mut input = MemorySource::over(alloc, input.as_bytes())?;
-    let mut listing = MemorySink::new(alloc);
-    let (status, _, _) = program(
-        rt,
-        alloc,
-        words.as_slice(),
-        MemoryStore::new(alloc),
-        &mut input,
-        &mut listing,
-        StepClock::new(),
-        &OpenGate,
-    );
-    Ok(Outcome {
-        status: status.number(),
-        listing,
-    })
+    let (_, store) = run_over(rt, alloc, MemoryStore::new(alloc), "INZ", "")?;
+    let (outcome, _) = run_over(rt, alloc, store, command, input)?;
+    Ok(outcome)
 }
 
 impl Outcome {

@@ -35,3 +35,8 @@ returns-in_err-make_library-clause-kept g c = λ tells some. absurd (some (c.in_
 
 pub returns-clause-kept : goal.returns-clause-kept
 returns-clause-kept g c = λ tells some. absurd (some (c.in_ok-is_written.ensures.none c.if-branch.false tells))
+
+-- a store that is made a library had none
+
+pub returns-clause-empty : goal.returns-clause-empty
+returns-clause-empty g c = c.in_ok-is_written.ensures.none c.if-branch.false

@@ -1,4 +1,4 @@
--- The sources of an input that isn't too long fit into the journal.
+-- No source of an input is longer than the input.
 use Rattle.std.proofs.Common.{◌≡◌, ℕ, ◌+◌, ◌≤◌, cond, true, false, Option, Some, None, List, [], ◌∷◌, ◌++◌, length, eqb, refl, sym, ap, ◌∙◌, ⊎_elim, arith, length-append}
 use Rattle.std.specs.List.{AllByRecursion, filter_map, cons_option}
 use Rattle.std.specs.Option.{option_map}
@@ -9,8 +9,6 @@ use Rattle.input_cards.specs.CardFaults.{source_name}
 use Rattle.input_cards.specs.Sections.{Part, before_card, parts_from, parts_of}
 use Rattle.input_reader.specs.Input.{input_of, source_in}
 use Rattle.library_model.specs.declared.sources.NamedSource.{NamedSource}
-use Rattle.deposited_entries.specs.Deposits.{AreShort, IsShort}
-use Rattle.ibmi_batch.specs.declared.limits.TheConstants.{MOST_INPUT}
 
 -- the bytes of lines, each with its line feed
 size : List (List ℕ) → ℕ
@@ -47,24 +45,27 @@ parts-size : (most number : ℕ) (lines : List (List ℕ)) → size lines ≤ mo
 parts-size most number [] le = tt
 parts-size most number (line ∷ lines) le = ⊎_elim
     (λ card. rw (cond-true (is_card line) (record { line = number; card = card_of line; lines = before_card lines } ∷ parts_from (number + 1) lines) (parts_from (number + 1) lines) card)
-        (let its = before-size lines in (omega (arith, its, le), parts-size most (number + 1) lines (omega (arith, le)))))
+    (let its = before-size lines in (omega (arith, its, le), parts-size most (number + 1) lines (omega (arith, le)))))
     (λ none. rw (cond-false (is_card line) (record { line = number; card = card_of line; lines = before_card lines } ∷ parts_from (number + 1) lines) (parts_from (number + 1) lines) none)
-        (parts-size most (number + 1) lines (omega (arith, le))))
+    (parts-size most (number + 1) lines (omega (arith, le))))
     (cases_Bool (is_card line))
+
 unfolding parts_from
 
-named-short : (most : ℕ) → most + 64 ≤ 534773760 → (parts : List Part) → AllByRecursion (λ (part : Part). size part.lines ≤ most) parts → AreShort (filter_map source_in parts)
-named-short most few [] all = tt
-named-short most few (part ∷ parts) all = one (source_name part.card)
+-- none of these is longer
+abbrev AreWithin : (most : ℕ) → List NamedSource → Type 0
+AreWithin most sources = AllByRecursion (λ source. length source.text ≤ most) sources
+
+named-within : (most : ℕ) (parts : List Part) → AllByRecursion (λ (part : Part). size part.lines ≤ most) parts → AreWithin most (filter_map source_in parts)
+named-within most [] all = tt
+named-within most (part ∷ parts) all = one (source_name part.card)
   where
-    rest : AreShort (filter_map source_in parts)
-    rest = named-short most few parts all.1
+    rest : AreWithin most (filter_map source_in parts)
+    rest = named-within most parts all.1
 
-    one : (name : Option (List ℕ)) → AreShort (cons_option (option_map (λ n. record { name = n; text = text_of_lines part.lines }) name) (filter_map source_in parts))
+    one : (name : Option (List ℕ)) → AreWithin most (cons_option (option_map (λ n. record { name = n; text = text_of_lines part.lines }) name) (filter_map source_in parts))
     one None = rest
-    one (Some name) = (let its = all.0 in omega (arith, text-size part.lines, its, few), rest)
+    one (Some name) = (let its = all.0 in omega (arith, text-size part.lines, its), rest)
 
-pub sources-short : (bytes : List ℕ) → length bytes ≤ MOST_INPUT → AreShort (input_of (lines_of bytes)).sources
-sources-short bytes short =
-    let most = lines-size bytes in
-    named-short 16777217 (omega arith) (parts_of (lines_of bytes)) (parts-size 16777217 1 (lines_of bytes) (omega (arith, most, short)))
+pub sources-within : (bytes : List ℕ) → AllByRecursion (λ source. length source.text ≤ length bytes + 1) (input_of (lines_of bytes)).sources
+sources-within bytes = named-within (length bytes + 1) (parts_of (lines_of bytes)) (parts-size (length bytes + 1) 1 (lines_of bytes) (lines-size bytes))
