@@ -90,7 +90,8 @@ module _ (entries : List Entry) where
       }
 
   -- the same of what was put into a library that has the entries alone
-  pub left-whole : (attached : ℕ) (standing : Standing) (files : List CatalogFile) (members : List HeldMember) (next : ℕ) (first s : State) → IsLeft descriptions (λ _. 0) (journal_with entries) standing
+  pub left-whole : (attached : ℕ) (standing : Standing) (files : List CatalogFile) (members : List HeldMember) (next : ℕ) (first s : State)
+      → IsLeft descriptions (λ _. 0) (journal_with entries) standing
       → files ≡ standing.files → members ≡ standing.members → next ≡ standing.next_member → IsBuilt entries attached [] [] first → Leads first [] [] s files members → s.next_member ≡ next
       → s ≡ library_left (λ _. 0) attached (journal_with entries)
   left-whole attached standing files members next first s left files_are members_are next_is none leads risen =

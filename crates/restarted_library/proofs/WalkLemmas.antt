@@ -52,7 +52,8 @@ member-step members place s later m at adds = λ catalog entries attached built.
     subst (λ (w : List HeldMember). IsBuilt entries attached catalog w later) (sym (take-found members place m at)) (adds catalog (take place members) entries attached built)
 
 -- all files, once the place is past the last
-pub files-end : (files : List CatalogFile) (members : List HeldMember) (place : ℕ) (s later : State) → length files ≤ place → Leads s [] [] later (take place files) members → Leads s [] [] later files members
+pub files-end : (files : List CatalogFile) (members : List HeldMember) (place : ℕ) (s later : State) → length files ≤ place → Leads s [] [] later (take place files) members
+    → Leads s [] [] later files members
 files-end files members place s later past leads = subst (λ (w : List CatalogFile). Leads s [] [] later w members) (take_all place files past) leads
 
 -- the files, then the members that are left, then the next number
