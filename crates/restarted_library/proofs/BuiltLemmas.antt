@@ -1,5 +1,5 @@
 -- The files and members of a library that is built from what a journal leaves, with one file or one member more.
-use Rattle.std.proofs.Common.{ℕ, ◌+◌, ◌<◌, ◌≡◌, ◌==◌, nat_lt, if◌then◌else◌, Bool, true, false, cond, map, filter, List, [], ◌∷◌, ◌++◌, Option, Some, None, refl, sym, ap, arith, ◌∙◌, subst, ne_eqb}
+use Rattle.std.proofs.Common.{ℕ, ◌+◌, ◌<◌, ◌≡◌, ◌==◌, nat_lt, if◌then◌else◌, Bool, true, false, cond, map, filter, List, [], ◌∷◌, ◌++◌, Option, Some, None, refl, sym, ap, arith, ◌∙◌, ne_eqb}
 use Rattle.std.specs.List.{AllByRecursion}
 use Rattle.std.specs.Option.{is_some, option_and_then, option_map}
 use Rattle.std.specs.Str.{bytes_eq}
@@ -7,8 +7,8 @@ use Rattle.std.proofs.lemmas.Bool.{eq-eqb}
 use Rattle.std.proofs.lemmas.Bool.Decides.{nat_tests}
 use Rattle.std.proofs.lemmas.List.{append-nil, map-append}
 use Rattle.dds_physical.specs.declared.physical_files.PhysicalSpec.{PhysicalSpec}
-use Rattle.member_slots.specs.Member.{MemberState, empty_member}
-use Rattle.member_slots.specs.Members.{Numbered, NumberedMembers, item_at, put_member, with_member}
+use Rattle.member_slots.specs.Member.{MemberState}
+use Rattle.member_slots.specs.Members.{NumberedMembers, item_at, put_member, with_member}
 use Rattle.journal_replay.specs.Standing.{HeldMember}
 use Rattle.lawful_states.proofs.NameLemmas.{same_name-equal, same_name-self}
 use Rattle.lawful_states.proofs.BaseLemmas.{named-before}
@@ -17,7 +17,7 @@ use Rattle.library_steps.specs.CreatePhysicalFile.{new_status}
 use Rattle.library_steps.specs.MemberCommands.{file_changed, with_member_name}
 use Rattle.library_steps.specs.State.{FileState, MemberStatus, physical_in, status_changed}
 use Rattle.restart_model.specs.Libraries.{record_length_in}
-use Rattle.restarted_library.specs.Built.{files_added, files_built, is_of, length_in, member_built, members_built, status_added, status_held, statuses_of, with_added, with_statuses}
+use Rattle.restarted_library.specs.Built.{files_added, files_built, is_of, member_built, members_built, status_added, status_held, statuses_of, with_added, with_statuses}
 
 -- ---- what is found by a name
 

@@ -1,5 +1,5 @@
 -- Slots that are records of one file that has a member may stand in the member.
-use Rattle.std.proofs.Common.{ℕ, ◌+◌, ◌*◌, ◌<◌, ◌≤◌, ◌≡◌, ◌&&◌, Bool, true, false, List, [], ◌∷◌, length, Option, Some, None, Result, Ok, Err, IsSome, refl, sym, ap, ◌∙◌, subst}
+use Rattle.std.proofs.Common.{ℕ, ◌+◌, ◌*◌, ◌<◌, ◌≤◌, ◌≡◌, ◌&&◌, Bool, true, false, List, [], ◌∷◌, length, Option, Some, None, Ok, IsSome, refl, sym, ap, ◌∙◌, subst}
 use Rattle.std.specs.Prelude.{IfSome, is_none, unwrap_or}
 use Rattle.std.specs.List.{AllByRecursion}
 use Rattle.std.specs.Option.{is_some, option_map}
@@ -15,7 +15,7 @@ use Rattle.dds_logical.specs.Complete.{Fails}
 use Rattle.dds_logical.specs.declared.logical_files.LogicalFault.{LogicalFault}
 use Rattle.dds_logical.specs.declared.logical_files.LogicalFault.TheVariants.{Fault}
 use Rattle.logical_model.specs.Bases.{FileSpec, LogicalFile, PhysicalFile}
-use Rattle.lawful_states.specs.Lawful.{HoldsValues, IsThere}
+use Rattle.lawful_states.specs.Lawful.{HoldsValues}
 use Rattle.lawful_states.specs.Members.{HasMember}
 use Rattle.lawful_states.specs.Owners.{AreApart, Owns}
 use Rattle.lawful_states.specs.Slots.{MayStand}

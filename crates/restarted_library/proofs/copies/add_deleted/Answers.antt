@@ -1,5 +1,5 @@
 use Rattle.std.proofs.Common.{◌∙◌}
-use Rattle.member_slots.specs.declared.slot.Slot.TheVariants.{Deleted, Live}
+use Rattle.member_slots.specs.declared.slot.Slot.TheVariants.{Deleted}
 use Rattle.restarted_library.proofs.CopyLemmas.{changed-last}
 use Rattle.restarted_library.proofs.copies.add_deleted.Goals as goal
 

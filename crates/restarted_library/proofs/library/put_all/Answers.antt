@@ -1,4 +1,4 @@
-use Rattle.std.proofs.Common.{◌≡◌, ◌≤◌, ◌∙◌, length, ap, arith}
+use Rattle.std.proofs.Common.{◌≤◌, ◌∙◌, length, ap, arith}
 use Rattle.library_steps.specs.State.{State}
 use Rattle.restarted_library.proofs.WalkLemmas.{whole}
 use Rattle.restarted_library.proofs.library.put_all.Goals as goal

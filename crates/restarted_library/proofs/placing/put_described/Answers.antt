@@ -1,4 +1,4 @@
-use Rattle.std.proofs.Common.{◌∙◌, refl}
+use Rattle.std.proofs.Common.{refl}
 use Rattle.restarted_library.proofs.StepLemmas.{is-new-view, view-put}
 use Rattle.restarted_library.proofs.placing.put_described.Goals as goal
 
