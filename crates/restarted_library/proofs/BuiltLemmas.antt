@@ -113,13 +113,14 @@ pub files-extended : (held : List HeldMember) (m : HeldMember) (described : Name
     → file_changed m.file (with_member_name m.name m.number) (files_built described held) ≡ files_added described held m
 files-extended held m [] = refl
 files-extended held m (entry ∷ described) =
-    let one : (entry.0, if same_name m.file entry.0 then with_member_name m.name m.number (with_statuses held entry).1 else (with_statuses held entry).1) ≡ with_added held m entry =
-    elim (bytes_eq m.file entry.0) as (λ b. (entry.0, if b then with_member_name m.name m.number (with_statuses held entry).1 else (with_statuses held entry).1)
-    ≡ (entry.0, record entry.1 { members = statuses_of entry.0 held ++ (if b then (m.name, new_status m.number) ∷ [] else []) })) [
+    let file : FileState = record entry.1 { members = statuses_of entry.0 held } in
+    let one : cond (bytes_eq m.file entry.0) (with_member_name m.name m.number file) file ≡ record entry.1 { members = statuses_of entry.0 held ++ status_added entry.0 m } =
+    elim (bytes_eq m.file entry.0) as (λ b. cond b (with_member_name m.name m.number file) file
+    ≡ record entry.1 { members = statuses_of entry.0 held ++ cond b ((m.name, new_status m.number) ∷ []) [] }) [
       | true ↦ refl
-      | false ↦ ap (λ (ms : Named MemberStatus). (entry.0, record entry.1 { members = ms })) (sym (append-nil (statuses_of entry.0 held)))
+      | false ↦ ap (λ (ms : Named MemberStatus). record entry.1 { members = ms }) (sym (append-nil (statuses_of entry.0 held)))
     ] in
-    λ i. one i ∷ files-extended held m described i
+    λ i. (entry.0, one i) ∷ files-extended held m described i
 
 -- and the member's status is set
 pub files-set : (held : List HeldMember) (m : HeldMember) (change : MemberStatus → MemberStatus) → change (new_status m.number) ≡ (status_held m).1

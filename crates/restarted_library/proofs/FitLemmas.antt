@@ -1,5 +1,5 @@
 -- Slots that are records of one file that has a member may stand in the member.
-use Rattle.std.proofs.Common.{ℕ, ◌+◌, ◌*◌, ◌<◌, ◌≤◌, ◌≡◌, ◌&&◌, Bool, true, false, List, [], ◌∷◌, length, Option, Some, None, Ok, IsSome, refl, sym, ap, ◌∙◌, subst}
+use Rattle.std.proofs.Common.{ℕ, ◌+◌, ◌*◌, ◌<◌, ◌≤◌, ◌≡◌, ◌&&◌, Bool, true, false, List, [], ◌∷◌, length, Option, Some, None, IsSome, refl, sym, ap, ◌∙◌, subst}
 use Rattle.std.specs.Prelude.{IfSome, is_none, unwrap_or}
 use Rattle.std.specs.List.{AllByRecursion}
 use Rattle.std.specs.Option.{is_some, option_map}
@@ -22,7 +22,6 @@ use Rattle.lawful_states.specs.Slots.{MayStand}
 use Rattle.lawful_states.proofs.MemberLemmas.{IsThere-is_some}
 use Rattle.library_model.specs.Named.{Named, named}
 use Rattle.library_model.specs.declared.limits.TheConstants.{LAST_MEMBER}
-use Rattle.library_model.specs.declared.replies.Reply.{Reply}
 use Rattle.library_model.specs.declared.requests.FileMember.{FileMember}
 use Rattle.library_parts.specs.Files.{IsNewMember}
 use Rattle.library_parts.specs.Filled.{MayFill}
@@ -31,7 +30,6 @@ use Rattle.library_steps.specs.declared.limits.TheConstants.{MOST_LIBRARY_BYTES,
 use Rattle.library_steps.specs.CreateLogicalFile.{logical_described}
 use Rattle.library_steps.specs.Journaling.{journaled_from, no_longer_journaled}
 use Rattle.library_steps.specs.Ranges.{library_bytes}
-use Rattle.library_steps.specs.Refusals.{found}
 use Rattle.library_steps.specs.State.{Memory, State, FileState, fields_of, format_in, memory_of, physical_among, physical_in}
 use Rattle.library_steps.specs.Uses.{user_of}
 use Rattle.replay_members.specs.Bodies.{Body}
@@ -79,10 +77,6 @@ stands-all s name file number slots given same apart has all =
     subst (λ (w : List Slot). AllByRecursion (λ (slot : Slot). MayStand s number slot) w) same (each-stands s name file number apart has.owns given all)
 
 -- ---- a file that gets a member
-
-pub shown-is : (o : Option FileState) (reply : Reply) (file : FileState) → found o reply ≡ Ok file → o ≡ Some file
-shown-is None reply file is = absurd cc
-shown-is (Some other) reply file is = cc
 
 pub extends : (s : State) (args : FileMember) (file : FileState) → physical_among args.file s.files ≡ Some file → length file.members < MOST_MEMBERS → s.next_member ≤ LAST_MEMBER → IsNewMember s args
 extends s args file is few number = record {

@@ -1,6 +1,6 @@
 use Rattle.std.proofs.Common.{refl}
 use Rattle.restarted_library.proofs.StepLemmas.{is-new-view, view-put}
-use Rattle.restarted_library.proofs.placing.put_described.Goals as goal
+use Rattle.restarted_library.proofs.placing.add_described.Goals as goal
 
 pub add_view-requires-clause-new : goal.add_view-requires-clause-new
 add_view-requires-clause-new c =
@@ -8,8 +8,8 @@ add_view-requires-clause-new c =
     c.requires
     c.in_ok-may_stand.ensures.unjoined c.in_ok-may_stand.ensures.unchanged
 
-pub returns-in-Ok : goal.returns-in-Ok
-returns-in-Ok c = λ created catalog members entries attached built.
+pub returns : goal.returns
+returns c = λ created catalog members entries attached built.
     view-put entries attached created catalog members c.args.name c.args.view.source c.args.contents.now.state c.reserve_file.new.self.state c.add_view.new.self.state c.args.view
     c.in_ok-may_stand.ensures.absent refl
-    c.requires c.reserve_file.ensures.state c.in-Ok.ensures.memory c.add_view.ensures.entries built
+    c.requires c.reserve_file.ensures.state c.in_ok-add_view.ensures.memory c.add_view.ensures.entries built
