@@ -1,13 +1,14 @@
 -- The files and members of a library that is built from what a journal leaves, with one file or one member more.
-use Rattle.std.proofs.Common.{ℕ, ◌+◌, ◌<◌, ◌≡◌, ◌==◌, nat_lt, if◌then◌else◌, Bool, true, false, cond, map, filter, List, [], ◌∷◌, ◌++◌, Option, Some, None, refl, sym, ap, arith, ◌∙◌, subst, ne_eqb}
+use Rattle.std.proofs.Common.{ℕ, ◌+◌, ◌<◌, ◌≡◌, ◌==◌, nat_lt, if◌then◌else◌, Bool, true, false, cond, map, filter, List, [], ◌∷◌, ◌++◌, Option, Some, None, refl, sym, ap, arith, ◌∙◌, ne_eqb}
 use Rattle.std.specs.List.{AllByRecursion}
 use Rattle.std.specs.Option.{is_some, option_and_then, option_map}
 use Rattle.std.specs.Str.{bytes_eq}
 use Rattle.std.proofs.lemmas.Bool.{eq-eqb}
 use Rattle.std.proofs.lemmas.Bool.Decides.{nat_tests}
+use Rattle.std.proofs.lemmas.List.{append-nil, map-append}
 use Rattle.dds_physical.specs.declared.physical_files.PhysicalSpec.{PhysicalSpec}
-use Rattle.member_slots.specs.Member.{MemberState, empty_member}
-use Rattle.member_slots.specs.Members.{Numbered, NumberedMembers, item_at, put_member, with_member}
+use Rattle.member_slots.specs.Member.{MemberState}
+use Rattle.member_slots.specs.Members.{NumberedMembers, item_at, put_member, with_member}
 use Rattle.journal_replay.specs.Standing.{HeldMember}
 use Rattle.lawful_states.proofs.NameLemmas.{same_name-equal, same_name-self}
 use Rattle.lawful_states.proofs.BaseLemmas.{named-before}
@@ -16,15 +17,7 @@ use Rattle.library_steps.specs.CreatePhysicalFile.{new_status}
 use Rattle.library_steps.specs.MemberCommands.{file_changed, with_member_name}
 use Rattle.library_steps.specs.State.{FileState, MemberStatus, physical_in, status_changed}
 use Rattle.restart_model.specs.Libraries.{record_length_in}
-use Rattle.restarted_library.specs.Built.{files_added, files_built, is_of, length_in, member_built, members_built, status_added, status_held, statuses_of, with_added, with_statuses}
-
-append-none : {X : Type 0} (xs : List X) → xs ++ [] ≡ xs
-append-none [] = refl
-append-none (x ∷ xs) = ap (λ (w : List _). x ∷ w) (append-none xs)
-
-map-append : {X Y : Type 0} (f : X → Y) (xs ys : List X) → map f (xs ++ ys) ≡ map f xs ++ map f ys
-map-append f [] ys = refl
-map-append f (x ∷ xs) ys = ap (λ (w : List _). f x ∷ w) (map-append f xs ys)
+use Rattle.restarted_library.specs.Built.{files_added, files_built, is_of, member_built, members_built, status_added, status_held, statuses_of, with_added, with_statuses}
 
 -- ---- what is found by a name
 
@@ -48,7 +41,8 @@ some-map : (change : FileState → FileState) (o : Option FileState) (file : Fil
 some-map change None file is = absurd cc
 some-map change (Some f) file is = refl
 
-pub built-there : (described : Named FileState) (held : List HeldMember) (name : List ℕ) (file : FileState) → named name (files_built described held) ≡ Some file → is_some (named name described) ≡ true
+pub built-there : (described : Named FileState) (held : List HeldMember) (name : List ℕ) (file : FileState) → named name (files_built described held) ≡ Some file
+    → is_some (named name described) ≡ true
 built-there described held name file is = some-map (with_members_of held name) (named name described) file (sym (named-built described held name) ∙ is)
 
 none-map : (change : FileState → FileState) (o : Option FileState) → option_map change o ≡ None → o ≡ None
@@ -115,16 +109,18 @@ status-new file m change is =
 -- ---- files
 
 -- the file gets one member more
-pub files-extended : (held : List HeldMember) (m : HeldMember) (described : Named FileState) → file_changed m.file (with_member_name m.name m.number) (files_built described held) ≡ files_added described held m
+pub files-extended : (held : List HeldMember) (m : HeldMember) (described : Named FileState)
+    → file_changed m.file (with_member_name m.name m.number) (files_built described held) ≡ files_added described held m
 files-extended held m [] = refl
 files-extended held m (entry ∷ described) =
-    let one : (entry.0, if same_name m.file entry.0 then with_member_name m.name m.number (with_statuses held entry).1 else (with_statuses held entry).1) ≡ with_added held m entry =
-    elim (bytes_eq m.file entry.0) as (λ b. (entry.0, if b then with_member_name m.name m.number (with_statuses held entry).1 else (with_statuses held entry).1)
-    ≡ (entry.0, record entry.1 { members = statuses_of entry.0 held ++ (if b then (m.name, new_status m.number) ∷ [] else []) })) [
+    let file : FileState = record entry.1 { members = statuses_of entry.0 held } in
+    let one : cond (bytes_eq m.file entry.0) (with_member_name m.name m.number file) file ≡ record entry.1 { members = statuses_of entry.0 held ++ status_added entry.0 m } =
+    elim (bytes_eq m.file entry.0) as (λ b. cond b (with_member_name m.name m.number file) file
+    ≡ record entry.1 { members = statuses_of entry.0 held ++ cond b ((m.name, new_status m.number) ∷ []) [] }) [
       | true ↦ refl
-      | false ↦ ap (λ (ms : Named MemberStatus). (entry.0, record entry.1 { members = ms })) (sym (append-none (statuses_of entry.0 held)))
+      | false ↦ ap (λ (ms : Named MemberStatus). record entry.1 { members = ms }) (sym (append-nil (statuses_of entry.0 held)))
     ] in
-    λ i. one i ∷ files-extended held m described i
+    λ i. (entry.0, one i) ∷ files-extended held m described i
 
 -- and the member's status is set
 pub files-set : (held : List HeldMember) (m : HeldMember) (change : MemberStatus → MemberStatus) → change (new_status m.number) ≡ (status_held m).1
@@ -160,7 +156,7 @@ others-added held m (entry ∷ described) absent =
       | true ↦ λ same none. absurd cc
       | false ↦ λ differ none. (
           let one : statuses_of entry.0 held ++ status_added entry.0 m ≡ statuses_of entry.0 held =
-          ap (λ (b : Bool). statuses_of entry.0 held ++ cond b ((m.name, new_status m.number) ∷ []) []) differ ∙ append-none (statuses_of entry.0 held) in
+          ap (λ (b : Bool). statuses_of entry.0 held ++ cond b ((m.name, new_status m.number) ∷ []) []) differ ∙ append-nil (statuses_of entry.0 held) in
           λ i. (entry.0, record entry.1 { members = one i }) ∷ others-added held m described none i)
     ] refl absent
 

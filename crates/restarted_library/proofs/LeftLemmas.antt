@@ -1,20 +1,16 @@
 -- A library that is built of all files and members that a journal leaves is the one that the journal leaves.
-use Rattle.std.proofs.Common.{ℕ, ◌+◌, ◌≡◌, Bool, true, false, cond, map, filter, List, [], ◌∷◌, ◌++◌, Option, refl, sym, ap, ◌∙◌, subst}
+use Rattle.std.proofs.Common.{ℕ, ◌≡◌, true, false, cond, map, filter, List, [], ◌∷◌, refl, sym, ap, ◌∙◌, subst}
 use Rattle.std.specs.List.{AllByRecursion}
-use Rattle.std.specs.Str.{bytes_eq}
 use Rattle.entry_codec.specs.declared.entries.Entry.{Entry}
-use Rattle.member_slots.specs.declared.slot.Slot.{Slot}
-use Rattle.member_slots.specs.Member.{MemberState}
-use Rattle.member_slots.specs.Members.{Numbered, NumberedMembers}
-use Rattle.journal_model.specs.Catalogue.{Catalogue, CatalogFile, CatalogMember, is_in_file}
+use Rattle.journal_model.specs.Catalogue.{Catalogue, CatalogFile, is_in_file}
 use Rattle.journal_model.specs.Journal.{AreNumbered, Journal, catalogue_of, state_of}
 use Rattle.journal_replay.specs.Left.{IsLeft, last_break_of}
 use Rattle.journal_replay.specs.Standing.{HeldMember, Standing, catalog_member, catalogue_in}
 use Rattle.library_model.specs.Named.{Named, named}
-use Rattle.library_steps.specs.State.{State, FileState, MemberStatus}
-use Rattle.restart_model.specs.Libraries.{file_left, files_left, journal_with, library_left, member_left, record_length_in, records_then, status_left}
+use Rattle.library_steps.specs.State.{State, FileState}
+use Rattle.restart_model.specs.Libraries.{files_left, journal_with, library_left, member_left, record_length_in, records_then, status_left}
 use Rattle.restart_model.specs.Sources.{descriptions, described_files}
-use Rattle.restarted_library.specs.Built.{IsBuilt, files_built, is_of, member_built, members_built, status_held, statuses_of, with_statuses}
+use Rattle.restarted_library.specs.Built.{IsBuilt, files_built, is_of, members_built, status_held, statuses_of}
 use Rattle.restarted_library.specs.Steps.{Leads}
 use Rattle.restarted_library.proofs.BuiltLemmas.{length-built}
 
@@ -90,7 +86,8 @@ module _ (entries : List Entry) where
       }
 
   -- the same of what was put into a library that has the entries alone
-  pub left-whole : (attached : ℕ) (standing : Standing) (files : List CatalogFile) (members : List HeldMember) (next : ℕ) (first s : State) → IsLeft descriptions (λ _. 0) (journal_with entries) standing
+  pub left-whole : (attached : ℕ) (standing : Standing) (files : List CatalogFile) (members : List HeldMember) (next : ℕ) (first s : State)
+      → IsLeft descriptions (λ _. 0) (journal_with entries) standing
       → files ≡ standing.files → members ≡ standing.members → next ≡ standing.next_member → IsBuilt entries attached [] [] first → Leads first [] [] s files members → s.next_member ≡ next
       → s ≡ library_left (λ _. 0) attached (journal_with entries)
   left-whole attached standing files members next first s left files_are members_are next_is none leads risen =

@@ -39,7 +39,8 @@ use Rattle.restarted_library.specs.Built.{IsAdded, IsBare, IsBuilt, files_added,
 use Rattle.restarted_library.specs.Steps.{filled_by, status_by, status_set}
 use Rattle.lawful_states.proofs.NameLemmas.{same_name-equal}
 use Rattle.restarted_library.proofs.FitLemmas.{and-both}
-use Rattle.restarted_library.proofs.BuiltLemmas.{at-last, built-absent, built-there, files-extended, files-more, files-owner, files-set, length-built, members-more, members-push, owned-more, own-found, own-more, put-last, spec-built, with-last}
+use Rattle.restarted_library.proofs.BuiltLemmas.{at-last, built-absent, built-there, files-extended, files-more, files-owner, files-set, length-built}
+use Rattle.restarted_library.proofs.BuiltLemmas.{members-more, members-push, owned-more, own-found, own-more, put-last, spec-built, with-last}
 
 -- ---- what stands beside files and members
 
@@ -89,7 +90,8 @@ below-more : (next more : ℕ) → next ≤ more → (held : List HeldMember) �
 below-more next more fewer [] all = tt
 below-more next more fewer (m ∷ held) all = (let low = all.0 in omega (arith, low, fewer), below-more next more fewer held all.1)
 
-pub built-passed : (entries : List Entry) (attached : ℕ) (catalog : List CatalogFile) (held : List HeldMember) (s later : State) (next : ℕ) → s.next_member ≤ next → later ≡ record s { next_member = next }
+pub built-passed : (entries : List Entry) (attached : ℕ) (catalog : List CatalogFile) (held : List HeldMember) (s later : State) (next : ℕ) → s.next_member ≤ next
+    → later ≡ record s { next_member = next }
     → IsBuilt entries attached catalog held s → IsBuilt entries attached catalog held later
 built-passed entries attached catalog held s later next risen is built = record {
   bare = bare-by entries attached s later built.bare (ap (λ (t : State). t.gone) is) (ap (λ (t : State). t.entries) is) (ap (λ (t : State). t.receivers) is) (ap (λ (t : State). t.checkpoint) is)
@@ -138,7 +140,8 @@ pub described-more : (catalog : List CatalogFile) (new : CatalogFile) (spec : Fi
 described-more catalog new spec is = behind-append catalog [] new ∙ ap (λ (o : Option FileSpec). with_described new o (described_files catalog)) is
 
 -- and with one that isn't
-pub described-less : (catalog : List CatalogFile) (new : CatalogFile) → spec_beside (described_files catalog) new.kind new.source ≡ None → described_files (catalog ++ new ∷ []) ≡ described_files catalog
+pub described-less : (catalog : List CatalogFile) (new : CatalogFile) → spec_beside (described_files catalog) new.kind new.source ≡ None
+    → described_files (catalog ++ new ∷ []) ≡ described_files catalog
 described-less catalog new is = behind-append catalog [] new ∙ ap (λ (o : Option FileSpec). with_described new o (described_files catalog)) is
 
 pub physical-beside : (catalog : List CatalogFile) (held : List HeldMember) (s : State) (source : List ℕ) (spec : PhysicalSpec) → s.files ≡ files_built (described_files catalog) held
@@ -189,10 +192,11 @@ view_made source spec = record { source = source; spec = LogicalFile spec; membe
 abbrev catalogued : (created : ℕ) → FileKind → (name source : List ℕ) → CatalogFile
 catalogued created kind name source = record { created = created; kind = kind; name = name; source = source }
 
-pub file-put : (entries : List Entry) (attached created : ℕ) (catalog : List CatalogFile) (held : List HeldMember) (m : HeldMember) (name source : List ℕ) (s passed ready later : State) (new : NewFile)
-    (file : FileState) → (bytes_eq m.file name && bytes_eq m.name name) ≡ true → named name s.files ≡ None → s.next_member ≤ m.number → passed ≡ record s { next_member = m.number } → new.source ≡ source
-    → described (formats_of (memory_of passed)) source ≡ Ok new.spec → ready ≡ passed → file ≡ new_file name m.number new → memory_of later ≡ with_file name file (memory_of ready)
-    → later.entries ≡ ready.entries → IsBuilt entries attached catalog held s → IsAdded entries attached (catalog ++ catalogued created Physical name source ∷ []) held m later
+pub file-put : (entries : List Entry) (attached created : ℕ) (catalog : List CatalogFile) (held : List HeldMember) (m : HeldMember) (name source : List ℕ) (s passed ready later : State)
+    (new : NewFile) (file : FileState) → (bytes_eq m.file name && bytes_eq m.name name) ≡ true → named name s.files ≡ None → s.next_member ≤ m.number
+    → passed ≡ record s { next_member = m.number } → new.source ≡ source → described (formats_of (memory_of passed)) source ≡ Ok new.spec → ready ≡ passed → file ≡ new_file name m.number new
+    → memory_of later ≡ with_file name file (memory_of ready) → later.entries ≡ ready.entries → IsBuilt entries attached catalog held s
+    → IsAdded entries attached (catalog ++ catalogued created Physical name source ∷ []) held m later
 file-put entries attached created catalog held m name source s passed ready later new file first absent risen is_passed text gives is_ready made is kept built =
     let both = and-both (bytes_eq m.file name) (bytes_eq m.name name) first in
     let own : m.file ≡ name = same_name-equal m.file name both.0 in
@@ -216,7 +220,8 @@ file-put entries attached created catalog held m name source s passed ready late
     let members_are : later.members ≡ members_added (shown ++ (m.file, state) ∷ []) held m =
     ap (λ (t : Memory). t.members) is ∙ (λ i. put_member (number i) (empty_member (long i)) (now.members i))
     ∙ put-last shown m.number (empty_member (length_in (shown ++ (m.file, state) ∷ []) m)) held below
-    ∙ ap (λ (w : NumberedMembers). w ++ record { number = m.number; item = empty_member (length_in (shown ++ (m.file, state) ∷ []) m) } ∷ []) (sym (members-more shown (m.file, state) held now.owned)) in
+    ∙ ap (λ (w : NumberedMembers). w ++ record { number = m.number; item = empty_member (length_in (shown ++ (m.file, state) ∷ []) m) } ∷ [])
+    (sym (members-more shown (m.file, state) held now.owned)) in
     let files_are : later.files ≡ files_added (shown ++ (m.file, state) ∷ []) held m =
     ap (λ (t : Memory). t.files) is ∙ (λ i. now.files i ++ (sym own i, is_new i) ∷ []) ∙ files-owner held m shown state none now.owned in
     record {
@@ -284,12 +289,14 @@ member-filled entries attached catalog held number body s mid later filled fille
     let shown = described_files catalog in
     let item : MemberState = empty_member (length_in shown m) in
     let found : member_of number s.members ≡ item =
-    ap (λ (w : NumberedMembers). unwrap_or (item_at number w) (empty_member 0)) added.members ∙ ap (λ (o : Option MemberState). unwrap_or o (empty_member 0)) (at-last shown number item held added.below) in
+    ap (λ (w : NumberedMembers). unwrap_or (item_at number w) (empty_member 0)) added.members ∙ ap (λ (o : Option MemberState). unwrap_or o (empty_member 0))
+    (at-last shown number item held added.below) in
     let new : filled_by s number body.slots ≡ record { record_length = length_in shown m; slots = body.slots } =
     ap (λ (w : MemberState). record w { slots = body.slots }) found in
     let same_files : mid.files ≡ s.files = ap (λ (t : Memory). t.files) filled in
     let files_are : later.files ≡ files_built shown (held ++ m ∷ []) =
-    ap (λ (t : Memory). t.files) set ∙ ap (λ (files : Named FileState). map (λ (entry : List ℕ × FileState). (entry.0, status_changed number (status_by body) entry.1)) files) (same_files ∙ added.files)
+    ap (λ (t : Memory). t.files) set ∙ ap (λ (files : Named FileState). map (λ (entry : List ℕ × FileState). (entry.0, status_changed number (status_by body) entry.1)) files)
+    (same_files ∙ added.files)
     ∙ files-set held m (status_by body) (status-is body.images body.last_break number body.slots) added.below shown in
     let members_are : later.members ≡ members_built shown (held ++ m ∷ []) =
     ap (λ (t : Memory). t.members) set ∙ ap (λ (t : Memory). t.members) filled
@@ -309,7 +316,8 @@ member-filled entries attached catalog held number body s mid later filled fille
 
 -- ---- files that may be added
 
-pub is-new : (s passed ready : State) (name : List ℕ) (number : ℕ) (new : NewFile) (file : FileState) → named name s.files ≡ None → passed ≡ record s { next_member = number } → number ≤ LAST_MEMBER → ready ≡ passed
+pub is-new : (s passed ready : State) (name : List ℕ) (number : ℕ) (new : NewFile) (file : FileState) → named name s.files ≡ None → passed ≡ record s { next_member = number }
+    → number ≤ LAST_MEMBER → ready ≡ passed
     → file ≡ new_file name number new → IsNewFile ready name file
 is-new s passed ready name number new file absent is_passed few is_ready made =
     let whole : ready ≡ record s { next_member = number } = is_ready ∙ is_passed in
@@ -321,7 +329,8 @@ is-new s passed ready name number new file absent is_passed few is_ready made =
       physical = subst (λ (f : FileState). IsPhysical f.spec) (sym made) tt;
     }
 
-pub is-new-view : (s ready : State) (name : List ℕ) (plan : NewLogical) (spec : LogicalSpec) → spec ≡ plan.spec → ready ≡ s → named name s.files ≡ None → logical_described (memory_of s) plan.source ≡ Ok plan.spec
+pub is-new-view : (s ready : State) (name : List ℕ) (plan : NewLogical) (spec : LogicalSpec) → spec ≡ plan.spec → ready ≡ s → named name s.files ≡ None
+    → logical_described (memory_of s) plan.source ≡ Ok plan.spec
     → IsUnjoined (LogicalFile spec) → changer_of_any (base_members (bases_of (memory_of s)) spec) (memory_of s) ≡ None → IsNewView ready name plan
 is-new-view s ready name plan spec its is_ready absent gives unjoined unchanged =
     subst (λ (t : State). IsNewView t name plan) (sym is_ready) (record {

@@ -1,8 +1,7 @@
 -- Files and members are put one after another: what is put of a list, with the next one, and all of it.
-use Rattle.std.proofs.Common.{ℕ, ◌+◌, ◌<◌, ◌≤◌, ◌≡◌, List, [], ◌∷◌, ◌++◌, length, get_or, slice_get, take, Option, Some, refl, sym, ap, arith, ◌∙◌, subst}
+use Rattle.std.proofs.Common.{ℕ, ◌+◌, ◌≤◌, ◌≡◌, List, [], ◌∷◌, ◌++◌, length, slice_get, take, Some, sym, ap, arith, ◌∙◌, subst}
 use Rattle.std.proofs.lemmas.List.{take_all, take_more}
 use Rattle.std.proofs.lemmas.Option.{get_or_from_slice_get, slice_get_within}
-use Rattle.entry_codec.specs.declared.entries.Entry.{Entry}
 use Rattle.entry_codec.specs.declared.kinds.FileKind.{FileKind}
 use Rattle.entry_codec.specs.declared.kinds.FileKind.TheVariants.{Logical, Physical}
 use Rattle.journal_model.specs.Catalogue.{CatalogFile}
@@ -52,7 +51,8 @@ member-step members place s later m at adds = λ catalog entries attached built.
     subst (λ (w : List HeldMember). IsBuilt entries attached catalog w later) (sym (take-found members place m at)) (adds catalog (take place members) entries attached built)
 
 -- all files, once the place is past the last
-pub files-end : (files : List CatalogFile) (members : List HeldMember) (place : ℕ) (s later : State) → length files ≤ place → Leads s [] [] later (take place files) members → Leads s [] [] later files members
+pub files-end : (files : List CatalogFile) (members : List HeldMember) (place : ℕ) (s later : State) → length files ≤ place → Leads s [] [] later (take place files) members
+    → Leads s [] [] later files members
 files-end files members place s later past leads = subst (λ (w : List CatalogFile). Leads s [] [] later w members) (take_all place files past) leads
 
 -- the files, then the members that are left, then the next number

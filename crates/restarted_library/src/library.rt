@@ -110,6 +110,9 @@ fn put_owner(
     ensures few { IfOk result (λ later. later ≤ length members.now.members) }
 {
     let first = first_of(members, &name, done);
+    if first >= members.len() {
+        return Err(AllocError);
+    }
     put_members(contents, members, done, first)?;
     let Some((number, member)) = members.at(first) else {
         return Err(AllocError);

@@ -23,7 +23,7 @@ use field_types::texts::SourceText;
 use file_catalogue::{Described, DescribedView, File};
 use library_model::limits::LAST_MEMBER;
 use library_model::requests::FileMember;
-use library_parts::Contents;
+use library_parts::{Contents, Stop};
 use library_steps::limits::MOST_MEMBERS;
 use replay_members::Member;
 use std::alloc::AllocError;
@@ -196,12 +196,20 @@ fn put_described(contents: &mut Contents, name: Name, view: DescribedView) -> Re
     requires { logical_described (memory_of contents.old.state) view.source ≡ Ok view.spec }
     ensures { OnOk result (AddsFile contents.old.state contents.new.state Logical name view.source) }
 {
-    may_stand(contents, &name, view.spec())?;
-    contents.reserve_file()?;
-    match contents.add_view(name, view) {
+    match add_described(contents, name, view) {
         Ok(()) => Ok(()),
         Err(_) => Err(AllocError),
     }
+}
+
+fn add_described(contents: &mut Contents, name: Name, view: DescribedView) -> Result<(), Stop>
+    requires { logical_described (memory_of contents.old.state) view.source ≡ Ok view.spec }
+    ensures { OnOk result (AddsFile contents.old.state contents.new.state Logical name view.source) }
+{
+    may_stand(contents, &name, view.spec())?;
+    contents.reserve_file()?;
+    contents.add_view(name, view)?;
+    Ok(())
 }
 
 /// The name is new, the file is no join, and no open commit cycle has changed a record under it.

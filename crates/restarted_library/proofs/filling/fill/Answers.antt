@@ -21,6 +21,9 @@ fill-requires-clause-may c =
     filled-is s c.args.number c.record_length-length.result c.args.member.now.slots c.slots.result.now c.in_ok-new.new.state c.in_ok-new.ensures c.record_length-length.ensures c.slots.ensures in
     subst (λ (m : MemberState). MayFill s c.args.number m) (sym same) c.in_ok-may_fill.ensures
 
+pub fill-requires-clause-paths : goal.fill-requires-clause-paths
+fill-requires-clause-paths c = c.in_ok-paths.ensures
+
 pub returns-clause-memory : goal.returns-clause-memory
 returns-clause-memory c =
     let s = c.args.contents.now.state in

@@ -7,8 +7,8 @@ loop-place-init c = record { built = λ entries attached none. none; few = omega
 
 pub loop-place-preserved : goal.loop-place-preserved
 loop-place-preserved c = record {
-  built = λ entries attached none. c.in_ok-put_file.ensures.built entries attached (c.loop-place.invariant.built entries attached none);
-  few = c.in_ok-put_file.ensures.few;
+  built = λ entries attached none. c.in_ok-done.ensures.built entries attached (c.loop-place.invariant.built entries attached none);
+  few = c.in_ok-done.ensures.few;
 }
 
 pub returns-clause-built : goal.returns-clause-built

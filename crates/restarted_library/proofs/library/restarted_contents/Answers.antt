@@ -6,6 +6,7 @@ begun-requires c = left-numbered c.args.entries.items c.args.replay c.requires.l
 
 pub returns : goal.returns
 returns c = record {
-  left = left-whole c.args.entries.items c.args.attached c.args.replay _ _ _ c.in_ok-contents.contents.state c.put_all.new.contents.state c.requires.left c.files.ensures c.members.ensures.members c.members.ensures.next
+  left = left-whole c.args.entries.items c.args.attached c.args.replay _ _ _ c.in_ok-contents.contents.state c.put_all.new.contents.state c.requires.left c.files.ensures c.members.ensures.members
+      c.members.ensures.next
       c.in_ok-contents.ensures c.in_ok-put_all.ensures.built c.in_ok-put_all.ensures.next;
 }

@@ -1,6 +1,4 @@
-use Rattle.std.proofs.Common.{◌≡◌, ◌≤◌, ◌∙◌, sym, ap, subst, arith}
-use Rattle.library_parts.specs.Files.{IsNewMember}
-use Rattle.library_model.specs.declared.limits.TheConstants.{LAST_MEMBER}
+use Rattle.std.proofs.Common.{◌≡◌, ◌∙◌, ap, arith}
 use Rattle.library_steps.specs.State.{State}
 use Rattle.replay_members.specs.Bodies.{held}
 use Rattle.restarted_library.proofs.StepLemmas.{member-put}

@@ -1,6 +1,3 @@
-use Rattle.std.proofs.Common.{◌≡◌, ◌≤◌, ◌∙◌, sym, ap, subst, arith}
-use Rattle.library_steps.specs.CreatePhysicalFile.{NewFile, new_file}
-use Rattle.library_steps.specs.State.{State, FileState}
 use Rattle.replay_members.specs.Bodies.{held}
 use Rattle.restarted_library.proofs.StepLemmas.{file-put, is-new}
 use Rattle.restarted_library.proofs.placing.put_physical.Goals as goal
