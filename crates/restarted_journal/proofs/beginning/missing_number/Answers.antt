@@ -14,4 +14,4 @@ pub returns-else-is_empty : goal.returns-else-is_empty
 returns-else-is_empty c = λ job moment.
     let some : 1 ≤ length c.args.entries.now = omega (arith, false-eqb (length c.args.entries.now) 0 c.if-is_empty.ensures) in
     let long : length c.args.entries.now ≡ length c.args.entries.now - 1 + 1 = omega (arith, some) in
-    ap (missing_behind job moment) (last-before c.args.entries.now (length c.args.entries.now - 1) c.index.result long c.index.is) ∙ ap (missing_draft job moment) c.number_ended.ensures
+    ap (missing_behind job moment) (last-before c.args.entries.now (length c.args.entries.now - 1) c.index-entries-entries.result long c.index-entries-entries.is) ∙ ap (missing_draft job moment) c.number_ended.ensures
