@@ -58,7 +58,10 @@ fn begin_library<S: Store>(
     ensures store { IfOk result (λ library. library.store ≡ store) }
     ensures refused { IfErr result (λ refused. (refused.0 ≡ OpenFault.NoMemory) × (refused.1 ≡ store)) }
 {
-    if !stands_behind(&journal, count) || !may_deposit(&contents) {
+    if !stands_behind(&journal, count) {
+        return Err((OpenFault::NoMemory, store));
+    }
+    if !may_deposit(&contents) {
         return Err((OpenFault::NoMemory, store));
     }
     // The members are within the bytes that a library may have.
