@@ -47,8 +47,9 @@ AreSound = (entries : List Entry) (attached moment : ℕ) → CanReplayJournal d
 
 pub opened : {S : Type 0} (law : AreSound) (tells : Type 0) (disk : S → Disk) (old : Disk) (store : S) (library : LibraryOver S) (book : BookState) (entries : List Entry) (s : Standing)
     → library.store ≡ store → IsRestarted descriptions tells old (disk store) restart_job 0 book entries s → Restarts tells old (disk store) → old.faults ≤ (disk store).faults
-    → IsBuilt tells (disk store) entries library → IsOpenedLibrary tells old (disk library.store) library
-opened law tells disk old store library book entries s same restarted restarts rose built =
+    → (tells → (areas : Areas) → May (disk store) areas → SpellJournal descriptions entries areas) → IsBuilt tells (disk store) entries library
+    → IsOpenedLibrary tells old (disk library.store) library
+opened law tells disk old store library book entries s same restarted restarts rose stays built =
     let before = restarted.before in
     let is : library.state ≡ library_restarted (λ _. 0) built.attached 0 (journal_with before) =
         built.state ∙ ap (λ (all : List Entry). library_left (λ _. 0) built.attached (journal_with all)) restarted.ended.ended in
@@ -62,15 +63,19 @@ opened law tells disk old store library book entries s same restarted restarts r
       all = built.all;
       receiver = built.receiver;
       left = λ told areas may. built.left told areas (subst (λ (it : S). May (disk it) areas) same may);
+      durable = λ told areas may.
+          subst (λ (all : List Entry). SpellJournal descriptions all areas) (sym (ap (λ (t : State). t.entries) built.state))
+          (stays told areas (subst (λ (it : S). May (disk it) areas) same may));
       faults = subst (λ (it : S). old.faults ≤ (disk it).faults) (sym same) rose;
     }
 
 -- the same of whatever was answered
 pub if-opened : {S E : Type 0} (law : AreSound) (tells : Type 0) (disk : S → Disk) (old : Disk) (store : S) (book : BookState) (entries : List Entry) (s : Standing)
     (r : Result (LibraryOver S) E) → IsRestarted descriptions tells old (disk store) restart_job 0 book entries s → Restarts tells old (disk store) → old.faults ≤ (disk store).faults
-    → IfOk r (λ library. IsBuilt tells (disk store) entries library) → IfOk r (λ library. library.store ≡ store) → IfOk r (λ library. IsOpenedLibrary tells old (disk library.store) library)
-if-opened law tells disk old store book entries s (Ok library) restarted restarts rose built same = opened law tells disk old store library book entries s same restarted restarts rose built
-if-opened law tells disk old store book entries s (Err e) restarted restarts rose built same = tt
+    → (tells → (areas : Areas) → May (disk store) areas → SpellJournal descriptions entries areas) → IfOk r (λ library. IsBuilt tells (disk store) entries library) → IfOk r (λ library. library.store ≡ store)
+    → IfOk r (λ library. IsOpenedLibrary tells old (disk library.store) library)
+if-opened law tells disk old store book entries s (Ok library) restarted restarts rose stays built same = opened law tells disk old store library book entries s same restarted restarts rose stays built
+if-opened law tells disk old store book entries s (Err e) restarted restarts rose stays built same = tt
 
 -- ---- refusals
 

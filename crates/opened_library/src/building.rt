@@ -1,5 +1,5 @@
 //! The library of a journal that was restarted.
-ghost use Rattle.std.specs.Prelude.{◌≡◌, ◌×◌, ◌<◌, true, length, IfOk, IfErr};
+ghost use Rattle.std.specs.Prelude.{◌≡◌, ◌<◌, true, length, IfOk, IfErr};
 ghost use Rattle.receiver_chain.specs.declared.numbers.TheConstants.{FIRST_RECEIVER};
 ghost use Rattle.receiver_chain.specs.Chain.{attached_of};
 ghost use Rattle.journal_book.specs.Book.{Holds, last_of};

@@ -19,7 +19,7 @@ returns-clause-opened g c =
     c.in-Ok.restarted.entries.items c.in-Ok.restarted.replay c.build_library.result
     (restarted-by g.S.Store.tells (g.S.Store.disk c.args.store) (g.S.Store.disk c.restart_journal.new.store) _ _ _ _ _ c.restarter.ensures.job c.restarter.ensures.moment c.in-Ok.ensures.restarted)
     (restarts-by g.S.Store.tells (g.S.Store.disk c.args.store) (g.S.Store.disk c.restart_journal.new.store) _ _ c.restarter.ensures.job c.restarter.ensures.moment c.restart_journal.ensures.moments)
-    c.restart_journal.ensures.faults c.build_library.ensures.built c.build_library.ensures.store
+    c.restart_journal.ensures.faults c.in-Ok.ensures.durable c.build_library.ensures.built c.build_library.ensures.store
 
 pub returns-clause-refused : goal.returns-clause-refused
 returns-clause-refused g c =
