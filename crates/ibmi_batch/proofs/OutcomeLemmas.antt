@@ -1,11 +1,12 @@
 -- What the parts of a command come to is the outcome of the command.
-use Rattle.std.proofs.Common.{◌≡◌, ◌≤◌, ℕ, inl, inr, ⊎_elim, true, false, List, [], length, refl, sym, subst, arith}
+use Rattle.std.proofs.Common.{◌≡◌, ◌≤◌, ◌∙◌, ◌++◌, ℕ, inl, inr, true, false, List, [], length, refl, sym, ap, subst, arith, length-append}
 use Rattle.text_lines.specs.Lines.{lines_of}
 use Rattle.store_model.specs.Disk.{Stays}
 use Rattle.store_model.proofs.Runs.{leaves_stays}
 use Rattle.entry_codec.specs.declared.entries.Entry.{Entry}
-use Rattle.checkpoint.specs.declared.layout.TheConstants.{ROOT_AREA}
-use Rattle.checkpoint.proofs.Formats.{no_root_short}
+use Rattle.gated_log.specs.Blocks.{header}
+use Rattle.gated_log.proofs.Numbers.{length-header}
+use Rattle.checkpoint.specs.declared.layout.TheConstants.{ROOT_AREA, VERSION}
 use Rattle.library_model.specs.declared.calls.Call.{Call}
 use Rattle.input_scripts.specs.declared.Scripts.{Scripts}
 use Rattle.input_reader.specs.Input.{faults_of}
@@ -47,7 +48,9 @@ module _ (words : List (List ℕ)) (format : are_format_words words ≡ true) (j
 -- a store that spells a journal isn't empty
 pub spelled-is-something : (storing : Storing) (entries : List Entry) → SpelledBefore storing entries → IsEmpty storing → ⊥
 spelled-is-something storing entries spelled empty =
-    no_root_short (storing.old.seen ROOT_AREA) (rw empty (omega arith)) spelled.earlier _ spelled.roots
+    let spells = spelled.roots.spells in
+    let lengths = ap (λ (l : List ℕ). length l) (sym empty ∙ spells.header) in
+    omega (arith, lengths, length-append (header ROOT_AREA 0 VERSION) spells.body, length-header ROOT_AREA 0 VERSION)
 
 -- where nothing is written a stop leaves what it may within a restart
 pub restart-of-untouched : (storing : Storing) → IsUntouched storing → IsRestart storing

@@ -29,9 +29,10 @@ use Rattle.restart_model.specs.Libraries.{restart_job}
 use Rattle.restart_model.specs.Sources.{descriptions}
 use Rattle.restarted_journal.specs.Restarts.{MayRestart}
 use Rattle.ibmi_batch.specs.declared.status.Status.{Status}
+use Rattle.ibmi_batch.specs.declared.status.Status.TheVariants.{StoreFault}
 use Rattle.ibmi_batch.specs.Opening.{status_of}
 use Rattle.ibmi_batch.specs.Outcome.{HasRun, HaveEnded, IsCutShort, IsStanding, RunOver, Writing}
-use Rattle.ibmi_batch.specs.Parts.{IsUnopened, SessionRan}
+use Rattle.ibmi_batch.specs.Parts.{IsUnopened, RunsJobs, SessionRan}
 use Rattle.ibmi_batch.specs.Storing.{MayRun}
 use Rattle.ibmi_batch.specs.Words.{are_serial_words}
 
@@ -137,3 +138,23 @@ module _ {S : Type 0} (tells : Type 0) (disk : S → Disk) (old : Disk) (library
 
     pub rose-run : Rose (disk begun-library.store).faults last.faults → Rose old.faults last.faults
     rose-run rose = let same = ap (λ (store : S). (disk store).faults) begins.store in let upto = opened.faults in omega (arith, rose, same, upto)
+
+    -- a session over it, which began with these jobs, has run
+    pub runs-over : {C : Type 0} (gives : C → ℕ → C → Type 0) (session : SessionOver S C) (clock later : C) (status : Status) (words : List (List ℕ)) (writing : Writing)
+        → session.library ≡ begun-library → session.scripts ≡ scripts → session.clock ≡ clock
+        → ((from : State) → StandsForced tells disk session.library from
+          → SessionRan tells (disk session.library.store) last status words session.scripts from (AreGiven gives session.clock later) writing)
+        → (status ≡ StoreFault → session.library.failed ≡ false → Rose (disk session.library.store).faults last.faults)
+        → RunsJobs status words scripts (AreGiven gives clock later) writing (record { tells = tells; old = old; new = last })
+    runs-over {C = C} gives session clock later status words writing over says at ran cause =
+        let forced = StandsForced-begun tells disk library begun-library scripts.names library.state opened-forced begins in
+        let done = ran (begun library.state scripts.names) (subst (λ (it : LibraryOver S). StandsForced tells disk it (begun library.state scripts.names)) (sym over) forced) in
+        inl (
+          over-run status words (AreGiven gives clock later) writing
+          (subst (λ (it : LibraryOver S). SessionRan tells (disk it.store) last status words scripts (begun library.state scripts.names) (AreGiven gives clock later) writing) over
+          (subst (λ (it : Scripts). SessionRan tells (disk session.library.store) last status words it (begun library.state scripts.names) (AreGiven gives clock later) writing) says
+          (subst (λ (it : C). SessionRan tells (disk session.library.store) last status words session.scripts (begun library.state scripts.names) (AreGiven gives it later) writing) at done))),
+          λ fault.
+              rose-run (subst (λ (it : LibraryOver S). Rose (disk it.store).faults last.faults) over
+              (cause fault (ap (λ (it : LibraryOver S). it.failed) over ∙ begins.failed ∙ opened.alive))),
+        )
