@@ -23,7 +23,7 @@ use Rattle.ibmi_batch.specs.Words.{are_command_words, are_display_words, are_for
 -- ---- words
 
 pub command-of-open : (words : List (List ℕ)) → are_open_words words ≡ true → are_command_words words ≡ true
-command-of-open words open = rw open refl
+command-of-open words opens = rw opens refl
 
 pub open-of-job : (words : List (List ℕ)) → are_job_words words ≡ true → are_open_words words ≡ true
 open-of-job words job = rw job refl
@@ -87,7 +87,7 @@ module _ (reading : Reading) (given : List Call → Type 0) (writing : Writing) 
     comes = inr (record {
       command = command-of-open reading.words (open-of-job reading.words words);
       written = nothing;
-      restart = λ open. restart-of-untouched storing untouched;
+      restart = λ opens. restart-of-untouched storing untouched;
       formatting = λ format tells. leaves_stays storing.old storing.new _ untouched (λ areas may. record { before = areas; could = may; roots = inl refl; others = λ area apart away. refl });
     });
     complete = λ reads tells order. tt;
@@ -106,7 +106,7 @@ module _ (reading : Reading) (given : List Call → Type 0) (writing : Writing) 
 module _ (reading : Reading) (given : List Call → Type 0) (writing : Writing) (storing : Storing) (format : are_format_words reading.words ≡ true)
     (job : are_job_words reading.words ≡ false) (display : are_display_words reading.words ≡ false) (nothing : NothingWritten writing) where
   no-open : are_open_words reading.words ≡ true → ⊥
-  no-open open = absurd (let none = no-open-of-format reading.words format job display in cc)
+  no-open opens = absurd (let none = no-open-of-format reading.words format job display in cc)
 
   no-job : are_job_words reading.words ≡ true → ⊥
   no-job runs = absurd cc
@@ -126,7 +126,7 @@ module _ (reading : Reading) (given : List Call → Type 0) (writing : Writing) 
       inr (record {
         command = command-of-format reading.words format job display;
         written = nothing;
-        restart = λ open. absurd (no-open open);
+        restart = λ opens. absurd (no-open opens);
         formatting = λ its. made.1;
       }),
     );
@@ -136,7 +136,7 @@ module _ (reading : Reading) (given : List Call → Type 0) (writing : Writing) 
     comes = inr (record {
       command = command-of-format reading.words format job display;
       written = nothing;
-      restart = λ open. absurd (no-open open);
+      restart = λ opens. absurd (no-open opens);
       formatting = λ its. made;
     });
     complete = λ reads tells order. tt;
@@ -152,22 +152,22 @@ module _ (reading : Reading) (given : List Call → Type 0) (writing : Writing) 
 
 -- ---- a library was not opened
 
-module _ (reading : Reading) (given : List Call → Type 0) (writing : Writing) (storing : Storing) (open : are_open_words reading.words ≡ true)
+module _ (reading : Reading) (given : List Call → Type 0) (writing : Writing) (storing : Storing) (opens : are_open_words reading.words ≡ true)
     (no-format : are_format_words reading.words ≡ true → ⊥) (input : are_job_words reading.words ≡ true → reading.tells → faults_of (lines_of reading.input) ≡ []) where
   pub outcome-refused : (status : Status) → IsRefused status writing storing → IsOutcome status reading given writing storing
   outcome-refused NotALibrary refused = record {
-    comes = record { command = open; input = input; written = refused.0; stored = refused.1; why = refused.2 };
-    complete = λ reads tells order. let its = order.journal open in spelled-is-something storing its.0 its.1 (refused.2 tells);
+    comes = record { command = opens; input = input; written = refused.0; stored = refused.1; why = refused.2 };
+    complete = λ reads tells order. let its = order.journal opens in spelled-is-something storing its.0 its.1 (refused.2 tells);
   }
   outcome-refused (Damaged area at) refused = record {
-    comes = record { command = open; input = input; written = refused.0; stored = refused.1; why = (refused.2, refused.3) };
-    complete = λ reads tells order. let its = order.journal open in refused.3 tells its.0 its.1;
+    comes = record { command = opens; input = input; written = refused.0; stored = refused.1; why = (refused.2, refused.3) };
+    complete = λ reads tells order. let its = order.journal opens in refused.3 tells its.0 its.1;
   }
   outcome-refused StoreFault refused = record {
     comes = (
       refused.1,
       inr (record {
-        command = command-of-open reading.words open;
+        command = command-of-open reading.words opens;
         written = refused.0;
         restart = λ its. refused.2;
         formatting = λ format. absurd (no-format format);
@@ -177,7 +177,7 @@ module _ (reading : Reading) (given : List Call → Type 0) (writing : Writing) 
   }
   outcome-refused NoMemory refused = record {
     comes = inr (record {
-      command = command-of-open reading.words open;
+      command = command-of-open reading.words opens;
       written = refused.0;
       restart = λ its. refused.1;
       formatting = λ format. absurd (no-format format);

@@ -1,5 +1,5 @@
 -- What a library that was opened, and a session that ran over it, come to together.
-use Rattle.std.proofs.Common.{◌≡◌, ◌≤◌, ◌∙◌, ℕ, inl, inr, true, false, List, [], length, take, refl, sym, ap, subst, arith}
+use Rattle.std.proofs.Common.{◌≡◌, ◌≤◌, ◌∙◌, ◌++◌, ℕ, inl, inr, true, false, List, [], length, take, refl, sym, ap, subst, arith}
 use Rattle.std.proofs.lemmas.List.{take_all}
 use Rattle.store_model.specs.Disk.{Areas, Disk, Leaves, May}
 use Rattle.store_model.specs.Faults.{Rose}
@@ -15,6 +15,8 @@ use Rattle.library_steps.specs.History.{Outcome, Standing, Failed}
 use Rattle.library_core.specs.Fronts.{IsFront}
 use Rattle.library_core.specs.Parts.{LibraryOver}
 use Rattle.library_core.specs.Stands.{IsAt}
+use Rattle.input_scripts.specs.declared.Schedule.{Schedule}
+use Rattle.input_scripts.specs.declared.Schedule.TheVariants.{Jobs, RoundRobin}
 use Rattle.input_scripts.specs.declared.Scripts.{Scripts}
 use Rattle.job_runner.specs.Asked.{AreAsked}
 use Rattle.job_runner.specs.Ended.{has_ended}
@@ -46,6 +48,11 @@ unopened fault.NoMemory tells old new is = is
 
 -- ---- what a session came to
 
+-- no calls are in turn by any schedule
+pub in-turn-none : (jobs : ℕ) (schedule : Schedule) (before : List Call) → AreInTurn jobs schedule before []
+in-turn-none jobs (Jobs turns) before = tt
+in-turn-none jobs RoundRobin before = tt
+
 -- an outcome of a library that hasn't failed stands
 pub stands-alive : {S : Type 0} (library : LibraryOver S) (outcome : Outcome) → IsAt library outcome → library.failed ≡ false → IsStanding outcome
 stands-alive library (Standing s) at alive = (s, refl)
@@ -69,6 +76,7 @@ module _ {S C : Type 0} (tells : Type 0) (disk : S → Disk) (gives : C → ℕ 
   session-outcome = led.outcome
 
   pub session-at : IsAt later.library session-outcome
+  unfolding session-outcome led
   session-at = led.at
 
   -- where it fails behind them the store's count of faults rose
@@ -81,6 +89,7 @@ module _ {S C : Type 0} (tells : Type 0) (disk : S → Disk) (gives : C → ℕ 
   -- with what was written
   pub session-ran : (status : Status) (writing : Writing) → HasRun status later.scripts later.calls session-outcome writing
       → SessionRan tells (disk first.library.store) (disk later.library.store) status words first.scripts from (AreGiven gives first.clock later.clock) writing
+  unfolding session-outcome led
   session-ran status writing ran = record {
     calls = made;
     outcome = led.outcome;

@@ -6,17 +6,8 @@ use Rattle.ibmi_batch.specs.declared.limits.TheConstants.{MOST_INPUT}
 use Rattle.ibmi_batch.proofs.ShortLemmas.{runnable}
 use Rattle.ibmi_batch.proofs.reading.read_scripts.Goals as goal
 
-pub returns-in-Ok-Ok-clause-read : goal.returns-in-Ok-Ok-clause-read
-returns-in-Ok-Ok-clause-read g c = record {
-  bytes = c.in-Ok.bytes.items;
-  whole = c.in-Ok.ensures.whole;
-  short = c.in-Ok.ensures.within;
-  sound = subst (λ bytes. faults_of (lines_of bytes) ≡ []) c.as_slice.ensures.value c.in-Ok-read_input.ensures.sound;
-  says = subst (λ bytes. c.in-Ok-read_input.scripts ≡ input_of (lines_of bytes)) c.as_slice.ensures.value c.in-Ok-read_input.ensures.read;
-}
-
-pub returns-in-Ok-Ok-clause-runnable : goal.returns-in-Ok-Ok-clause-runnable
-returns-in-Ok-Ok-clause-runnable g c =
+pub returns-in-Ok-read_input-clause-runnable : goal.returns-in-Ok-read_input-clause-runnable
+returns-in-Ok-read_input-clause-runnable g c =
     runnable c.in-Ok.bytes.items c.in-Ok-read_input.scripts c.in-Ok.ensures.within
     (subst (λ bytes. c.in-Ok-read_input.scripts ≡ input_of (lines_of bytes)) c.as_slice.ensures.value c.in-Ok-read_input.ensures.read)
     c.in-Ok-read_input.ensures.ready c.in-Ok-read_input.ensures.scheduled (c.sources_are_no_longer_than_their_input.ensures c.in-Ok.bytes.items)

@@ -2,8 +2,8 @@ use Rattle.std.proofs.Common.{◌≡◌, true, false, rules}
 use Rattle.ibmi_batch.proofs.RunLemmas.{stands-alive, cut-failed}
 use Rattle.ibmi_batch.proofs.running.write_outcome.Goals as goal
 
-pub returns-then-clause-ran : goal.returns-then-clause-ran
-returns-then-clause-ran g c =
+pub returns-then-failed-clause-ran : goal.returns-then-failed-clause-ran
+returns-then-failed-clause-ran g c =
     let failed : c.args.session.now.library.failed ≡ true = search rules in
     λ outcome at. c.write_cut_short.ensures outcome (cut-failed c.args.session.now.library outcome at failed)
 
