@@ -156,24 +156,24 @@ module _ (reading : Reading) (given : List Call → Type 0) (writing : Writing) 
     (no-format : are_format_words reading.words ≡ true → ⊥) (input : are_job_words reading.words ≡ true → reading.tells → faults_of (lines_of reading.input) ≡ []) where
   pub outcome-refused : (status : Status) → IsRefused status writing storing → IsOutcome status reading given writing storing
   outcome-refused NotALibrary refused = record {
-    comes = record { command = opens; input = input; written = refused.0; stored = refused.1; why = refused.2 };
-    complete = λ reads tells order. let its = order.journal opens in spelled-is-something storing its.0 its.1 (refused.2 tells);
+    comes = record { command = opens; input = input; written = refused.0; stored = refused.1.0; why = refused.1.1 };
+    complete = λ reads tells order. let its = order.journal opens in spelled-is-something storing its.0 its.1 (refused.1.1 tells);
   }
   outcome-refused (Damaged area at) refused = record {
-    comes = record { command = opens; input = input; written = refused.0; stored = refused.1; why = (refused.2, refused.3) };
-    complete = λ reads tells order. let its = order.journal opens in refused.3 tells its.0 its.1;
+    comes = record { command = opens; input = input; written = refused.0; stored = refused.1.0; why = (refused.1.1, refused.1.2) };
+    complete = λ reads tells order. let its = order.journal opens in refused.1.2 tells its.0 its.1;
   }
   outcome-refused StoreFault refused = record {
     comes = (
-      refused.1,
+      refused.1.0,
       inr (record {
         command = command-of-open reading.words opens;
         written = refused.0;
-        restart = λ its. refused.2;
+        restart = λ its. refused.1.1;
         formatting = λ format. absurd (no-format format);
       }),
     );
-    complete = λ reads tells order. refused.1;
+    complete = λ reads tells order. refused.1.0;
   }
   outcome-refused NoMemory refused = record {
     comes = inr (record {

@@ -63,6 +63,14 @@ pub cut-failed : {S : Type 0} (library : LibraryOver S) (outcome : Outcome) → 
 cut-failed library (Standing s) at failed = absurd (let alive = at.alive in cc)
 cut-failed library (Failed entries) at failed = (entries, refl)
 
+-- where it fails behind them the store's count of faults rose
+pub session-rose : {S C : Type 0} (tells : Type 0) (disk : S → Disk) (gives : C → ℕ → C → Type 0) (first later : SessionOver S C) (made : List Call)
+    → HasMade tells disk gives first later made → first.library.failed ≡ false → later.library.failed ≡ true → Rose (disk first.library.store).faults (disk later.library.store).faults
+session-rose tells disk gives first later made has alive failed = elim (has.cause failed) [
+  | inl before ↦ absurd cc
+  | inr rose ↦ rose
+]
+
 module _ {S C : Type 0} (tells : Type 0) (disk : S → Disk) (gives : C → ℕ → C → Type 0) (words : List (List ℕ)) (first later : SessionOver S C) (made : List Call) (from : State)
     (none : first.calls ≡ []) (forced : StandsForced tells disk first.library from) (has : HasMade tells disk gives first later made)
     (order : are_serial_words words ≡ true → AreInTurn (length first.scripts.scripts) first.scripts.schedule first.calls made) where
@@ -78,13 +86,6 @@ module _ {S C : Type 0} (tells : Type 0) (disk : S → Disk) (gives : C → ℕ 
   pub session-at : IsAt later.library session-outcome
   unfolding session-outcome led
   session-at = led.at
-
-  -- where it fails behind them the store's count of faults rose
-  pub session-rose : first.library.failed ≡ false → later.library.failed ≡ true → Rose (disk first.library.store).faults (disk later.library.store).faults
-  session-rose alive failed = elim (has.cause failed) [
-    | inl before ↦ absurd cc
-    | inr rose ↦ rose
-  ]
 
   -- with what was written
   pub session-ran : (status : Status) (writing : Writing) → HasRun status later.scripts later.calls session-outcome writing

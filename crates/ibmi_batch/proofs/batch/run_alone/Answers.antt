@@ -6,25 +6,25 @@ use Rattle.ibmi_batch.proofs.OutcomeLemmas.{no-command, outcome-made, outcome-sh
 use Rattle.ibmi_batch.proofs.WordLemmas.{no-format-of-display}
 use Rattle.ibmi_batch.proofs.batch.run_alone.Goals as goal
 
-pub returns-else-then-clause-outcome : goal.returns-else-then-clause-outcome
-returns-else-then-clause-outcome g c =
+pub returns-then-are_display_words : goal.returns-then-are_display_words
+returns-then-are_display_words g c =
     let words = map string_bytes c.args.words.now in
     let job : are_job_words words ≡ false = search rules in
     let display : are_display_words words ≡ true = search rules in
-    outcome-shown _ _ _ _ display job (no-format-of-display words display) _ c.show_library.ensures
+    record { outcome = outcome-shown _ _ _ _ display job (no-format-of-display words display) _ c.show_library-status.ensures }
 
-pub returns-else-else-then-clause-outcome : goal.returns-else-else-then-clause-outcome
-returns-else-else-then-clause-outcome g c =
+pub returns-then-are_format_words : goal.returns-then-are_format_words
+returns-then-are_format_words g c =
     let words = map string_bytes c.args.words.now in
     let job : are_job_words words ≡ false = search rules in
     let display : are_display_words words ≡ false = search rules in
     let format : are_format_words words ≡ true = search rules in
-    outcome-made _ _ _ _ format job display (λ tells. refl) _ c.make_library.ensures
+    record { outcome = outcome-made _ _ _ _ format job display (λ tells. refl) _ c.make_library-status.ensures }
 
-pub returns-clause-outcome : goal.returns-clause-outcome
-returns-clause-outcome g c =
+pub returns-else-are_format_words : goal.returns-else-are_format_words
+returns-else-are_format_words g c =
     let words = map string_bytes c.args.words.now in
     let job : are_job_words words ≡ false = search rules in
     let display : are_display_words words ≡ false = search rules in
     let format : are_format_words words ≡ false = search rules in
-    outcome-words _ _ _ _ (no-command words job display format) (λ tells. refl) (stays_here (g.S.Store.disk c.args.store))
+    record { outcome = outcome-words _ _ _ _ (no-command words job display format) (λ tells. refl) (stays_here (g.S.Store.disk c.args.store)) }

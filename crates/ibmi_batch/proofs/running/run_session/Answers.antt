@@ -17,4 +17,4 @@ pub returns-clause-cause : goal.returns-clause-cause
 returns-clause-cause g c = λ fault alive.
     let made = c.run_jobs-ran.ensures.made in
     rw c.into_parts-store.ensures.store
-    (made.1.cause (c.write_outcome-status.ensures.cause fault))
+    (session-rose g.S.Store.tells g.S.Store.disk g.C.Clock.gives c.args.session c.run_jobs-ran.new.session made.0 made.1 alive (c.write_outcome-status.ensures.cause fault))
