@@ -70,7 +70,10 @@ fn image_holds<R: Threads + Wait + Sync + Abort>(
     let records = lines_with(shown.text(), "RCD ");
     let least = RECORDS[calls.min(20)];
     let most = RECORDS[calls.saturating_add(1).min(20)];
-    assert!(rt; least <= records && records <= most, "stopped at {stop}: {records} records behind {calls} calls");
+    assert!(rt;
+        least <= records && records <= most,
+        "stopped at {stop}: {records} records behind {calls} calls"
+    );
     // What was shown is on the disk: the same is shown again.
     let again = run(rt, alloc, shown.store, "DSP", "")?;
     assert_eq!(rt; again.status, 0);

@@ -52,7 +52,7 @@ pub opened : {S : Type 0} (law : AreSound) (tells : Type 0) (disk : S → Disk) 
 opened law tells disk old store library book entries s same restarted restarts rose stays built =
     let before = restarted.before in
     let is : library.state ≡ library_restarted (λ _. 0) built.attached 0 (journal_with before) =
-        built.state ∙ ap (λ (all : List Entry). library_left (λ _. 0) built.attached (journal_with all)) restarted.ended.ended in
+    built.state ∙ ap (λ (all : List Entry). library_left (λ _. 0) built.attached (journal_with all)) restarted.ended.ended in
     record {
       before = before;
       from = record { replays = restarted.replays; spelled = restarted.spelled; attached = built.attached; left = is };
