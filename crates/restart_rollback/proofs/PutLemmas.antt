@@ -1,5 +1,5 @@
 -- Entries that are put behind those of a journal, and what a stop leaves meanwhile.
-use Rattle.std.proofs.Common.{inl, ℕ, ◌+◌, ◌≤◌, List, ◌++◌, length, refl, sym, subst, arith, length-append}
+use Rattle.std.proofs.Common.{inl, ℕ, ◌≤◌, List, ◌++◌, length, refl, sym, subst, arith, length-append}
 use Rattle.store_model.specs.Disk.{Disk, Leaves}
 use Rattle.store_model.proofs.Runs.{leaves_stays}
 use Rattle.entry_codec.specs.declared.entries.Entry.{Entry}

@@ -1,5 +1,5 @@
 -- A journal that is restarted, with the roots of its store: what a stop leaves of both, and what the store spells when it is done.
-use Rattle.std.proofs.Common.{◌≡◌, inl, inr, ℕ, ◌+◌, ◌<◌, ◌≤◌, Option, List, length, take, refl, sym, ◌∙◌, subst, arith}
+use Rattle.std.proofs.Common.{◌≡◌, inl, inr, ℕ, ◌<◌, Option, List, length, refl, sym, subst, arith}
 use Rattle.std.proofs.lemmas.List.{take_all}
 use Rattle.store_model.specs.Disk.{Areas, Disk, Leaves, May, Stays}
 use Rattle.store_model.proofs.Runs.{leaves_less, leaves_stays, leaves_then}

@@ -1,4 +1,4 @@
-use Rattle.std.proofs.Common.{◌++◌, List, subst}
+use Rattle.std.proofs.Common.{◌++◌, List, length, refl, subst}
 use Rattle.entry_codec.specs.declared.entries.Entry.{Entry}
 use Rattle.journal_opening.specs.Journals.{IsLeftBy}
 use Rattle.restart_rollback.proofs.Rolling.{rolled-by}
@@ -6,7 +6,7 @@ use Rattle.restart_rollback.proofs.rollback.prepare.Goals as goal
 
 pub returns-clause-more : goal.returns-clause-more
 returns-clause-more g c =
-    rolled-by (g.D.Describe.rules c.args.by.now) c.args.who.now.job c.args.who.now.moment c.args.entries.now c.args.replay.now c.requires.left c.len.result c.len.ensures
+    rolled-by (g.D.Describe.rules c.args.by.now) c.args.who.now.job c.args.who.now.moment c.args.entries.now c.args.replay.now c.requires.left (length c.args.entries.now) refl
     c.open_cycles.result.now.cycles c.open_cycles.result.now.undos c.open_cycles.ensures.cycles c.open_cycles.ensures.undos c.in_ok-drafts.drafts.items c.in_ok-drafts.ensures
     c.in_ok-more.more.items c.in_ok-more.ensures
 

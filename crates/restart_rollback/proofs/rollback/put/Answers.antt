@@ -1,4 +1,4 @@
-use Rattle.std.proofs.Common.{◌+◌, ◌++◌, ◌∙◌, List, length, subst, arith}
+use Rattle.std.proofs.Common.{◌++◌, ◌∙◌, List, length, subst, arith}
 use Rattle.store_model.specs.Disk.{Leaves}
 use Rattle.entry_codec.specs.declared.entries.Entry.{Entry}
 use Rattle.receiver_chain.proofs.Others.{roots_here}

@@ -31,22 +31,22 @@ returns-in-None-clause-replays g c = λ tells whole.
 pub returns-in-None-clause-roots : goal.returns-in-None-clause-roots
 returns-in-None-clause-roots g c = roots_here (g.S.Store.disk c.args.store.now)
 
-pub returns-clause-ended : goal.returns-clause-ended
-returns-clause-ended g c =
+pub returns-in-Some-clause-ended : goal.returns-in-Some-clause-ended
+returns-in-Some-clause-ended g c =
     subst (λ (l : List Entry). OnOk c.begin_behind.result (c.begin_behind.new.entries.items ≡ l))
     (sym (begun-one c.args.who.now.job c.args.who.now.moment c.args.entries.now.items c.in-Some.number
     (missing-at c.args.who.now.job c.args.who.now.moment c.deref.result.now c.args.entries.now.items c.missing_number.result (Some c.in-Some.number) c.deref.ensures.value c.in-Some.is
     (c.missing_number.ensures c.args.who.now.job c.args.who.now.moment)))) c.begin_behind.ensures.ended
 
-pub returns-clause-moments : goal.returns-clause-moments
-returns-clause-moments g c = λ tells.
+pub returns-in-Some-clause-moments : goal.returns-in-Some-clause-moments
+returns-in-Some-clause-moments g c = λ tells.
     subst (λ (l : List Entry). Leaves (g.S.Store.disk c.args.store.now) (g.S.Store.disk c.begin_behind.new.store) (IsForcedOrFrom c.args.book.now.chain.first c.args.book.now.forced (length l) l))
     (sym (begun-one c.args.who.now.job c.args.who.now.moment c.args.entries.now.items c.in-Some.number
     (missing-at c.args.who.now.job c.args.who.now.moment c.deref.result.now c.args.entries.now.items c.missing_number.result (Some c.in-Some.number) c.deref.ensures.value c.in-Some.is
     (c.missing_number.ensures c.args.who.now.job c.args.who.now.moment)))) (c.begin_behind.ensures.moments tells)
 
-pub returns-clause-replays : goal.returns-clause-replays
-returns-clause-replays g c = λ tells whole.
+pub returns-in-Some-clause-replays : goal.returns-in-Some-clause-replays
+returns-in-Some-clause-replays g c = λ tells whole.
     subst (λ (l : List Entry). Leaves (g.S.Store.disk c.args.store.now) (g.S.Store.disk c.begin_behind.new.store)
     (IsForcedOrReplayed (g.D.Describe.rules c.args.by.now) c.args.book.now.chain.first c.args.book.now.forced l))
     (sym (begun-one c.args.who.now.job c.args.who.now.moment c.args.entries.now.items c.in-Some.number

@@ -1,4 +1,4 @@
-use Rattle.std.proofs.Common.{◌≡◌, ◌+◌, ◌-◌, ◌≤◌, None, List, length, sym, ◌∙◌, ap, arith, eqb-true, false-eqb}
+use Rattle.std.proofs.Common.{◌≡◌, ◌+◌, ◌-◌, ◌≤◌, Some, None, List, length, sym, ◌∙◌, ap, arith, eqb-true, false-eqb}
 use Rattle.std.proofs.lemmas.List.{nil_from_length}
 use Rattle.entry_codec.specs.declared.entries.Entry.{Entry}
 use Rattle.journal_model.specs.Acts.{entry_before}
@@ -10,8 +10,9 @@ pub returns-then-is_empty : goal.returns-then-is_empty
 returns-then-is_empty c = λ job moment.
     ap (λ (l : List Entry). missing_behind job moment (entry_before None l)) (nil_from_length c.args.entries.now (eqb-true (length c.args.entries.now) 0 (sym c.if-is_empty.ensures)))
 
-pub returns : goal.returns
-returns c = λ job moment.
+pub returns-else-is_empty : goal.returns-else-is_empty
+returns-else-is_empty c = λ job moment.
     let some : 1 ≤ length c.args.entries.now = omega (arith, false-eqb (length c.args.entries.now) 0 c.if-is_empty.ensures) in
     let long : length c.args.entries.now ≡ length c.args.entries.now - 1 + 1 = omega (arith, some) in
-    ap (missing_behind job moment) (last-before c.args.entries.now (length c.args.entries.now - 1) c.index.result long c.index.is) ∙ ap (missing_draft job moment) c.number_ended.ensures
+    let last = last-before c.args.entries.now (length c.args.entries.now - 1) c.index-entries-entries.result long c.index-entries-entries.is in
+    ap (missing_behind job moment) (last ∙ ap (λ (e : Entry). Some e) c.index-entries-entries.is) ∙ ap (missing_draft job moment) c.number_ended.ensures
