@@ -1,5 +1,5 @@
 -- What a restart leaves, built in memory, is a library that was opened.
-use Rattle.std.proofs.Common.{◌≡◌, ◌≢◌, ◌≤◌, ◌∙◌, ℕ, Option, Some, None, Result, Ok, Err, IfOk, IfErr, IfSome, IsSome, IsErrOf, IsTrue, ◌↔◌, Bool, true, List, [], sym, ap, subst}
+use Rattle.std.proofs.Common.{◌≡◌, ◌≢◌, ◌≤◌, ◌∙◌, ℕ, Bool, true, Option, Some, None, Result, Ok, Err, IfOk, IfErr, IfSome, IsSome, IsErrOf, IsTrue, ◌↔◌, List, [], sym, ap, subst}
 use Rattle.store_model.specs.Disk.{Areas, Disk, Leaves, May, Stays}
 use Rattle.store_model.specs.Faults.{Rose}
 use Rattle.entry_codec.specs.declared.entries.Entry.{Entry}
@@ -49,10 +49,10 @@ pub opened : {S : Type 0} (law : AreSound) (tells : Type 0) (disk : S → Disk) 
     → library.store ≡ store → IsRestarted descriptions tells old (disk store) restart_job 0 book entries s → Restarts tells old (disk store) → old.faults ≤ (disk store).faults
     → (tells → (areas : Areas) → May (disk store) areas → SpellJournal descriptions entries areas) → IsBuilt tells (disk store) entries library
     → IsOpenedLibrary tells old (disk library.store) library
-opened law tells disk old store library book entries s same restarted restarts rose stays built =
+opened {S = S} law tells disk old store library book entries s same restarted restarts rose stays built =
     let before = restarted.before in
     let is : library.state ≡ library_restarted (λ _. 0) built.attached 0 (journal_with before) =
-        built.state ∙ ap (λ (all : List Entry). library_left (λ _. 0) built.attached (journal_with all)) restarted.ended.ended in
+    built.state ∙ ap (λ (all : List Entry). library_left (λ _. 0) built.attached (journal_with all)) restarted.ended.ended in
     record {
       before = before;
       from = record { replays = restarted.replays; spelled = restarted.spelled; attached = built.attached; left = is };
@@ -72,9 +72,11 @@ opened law tells disk old store library book entries s same restarted restarts r
 -- the same of whatever was answered
 pub if-opened : {S E : Type 0} (law : AreSound) (tells : Type 0) (disk : S → Disk) (old : Disk) (store : S) (book : BookState) (entries : List Entry) (s : Standing)
     (r : Result (LibraryOver S) E) → IsRestarted descriptions tells old (disk store) restart_job 0 book entries s → Restarts tells old (disk store) → old.faults ≤ (disk store).faults
-    → (tells → (areas : Areas) → May (disk store) areas → SpellJournal descriptions entries areas) → IfOk r (λ library. IsBuilt tells (disk store) entries library) → IfOk r (λ library. library.store ≡ store)
+    → (tells → (areas : Areas) → May (disk store) areas → SpellJournal descriptions entries areas)
+    → IfOk r (λ library. IsBuilt tells (disk store) entries library) → IfOk r (λ library. library.store ≡ store)
     → IfOk r (λ library. IsOpenedLibrary tells old (disk library.store) library)
-if-opened law tells disk old store book entries s (Ok library) restarted restarts rose stays built same = opened law tells disk old store library book entries s same restarted restarts rose stays built
+if-opened law tells disk old store book entries s (Ok library) restarted restarts rose stays built same =
+    opened law tells disk old store library book entries s same restarted restarts rose stays built
 if-opened law tells disk old store book entries s (Err e) restarted restarts rose stays built same = tt
 
 -- ---- refusals
@@ -94,11 +96,11 @@ not-opened tells old new NoMemory r is restarts empty same spelled some stays ro
 pub not-built : {S T : Type 0} (tells : Type 0) (disk : S → Disk) (old : Disk) (store : S) (r : Result T (OpenFault × S)) → Restarts tells old (disk store)
     → IfErr r (λ refused. (refused.0 ≡ NoMemory) × (refused.1 ≡ store)) → IfErr r (λ refused. IsNotOpened refused.0 tells old (disk refused.1))
 not-built tells disk old store (Ok library) restarts refused = tt
-not-built tells disk old store (Err (fault, given)) restarts refused =
-    subst (λ (f : OpenFault). IsNotOpened f tells old (disk given)) (sym refused.0) (subst (λ (it : _). Restarts tells old (disk it)) (sym refused.1) restarts)
+not-built {S = S} tells disk old store (Err (fault, given)) restarts refused =
+    subst (λ (f : OpenFault). IsNotOpened f tells old (disk given)) (sym refused.0) (subst (λ (it : S). Restarts tells old (disk it)) (sym refused.1) restarts)
 
 -- ---- who restarts
 
 pub name-of : (name : Option (List ℕ)) (text : List ℕ) (is : Bool) → (IsSome name ↔ IsTrue is) → is ≡ true → IfSome name (λ n. n ≡ text) → name ≡ Some text
-name-of None text is valid yes value = absurd (let none : IsSome {T = List ℕ} None = valid.1 yes in cc)
-name-of (Some name) text is valid yes value = ap (λ (n : List ℕ). Some n) value
+name-of None text is valid said value = absurd (let none : IsSome {T = List ℕ} None = valid.1 said in cc)
+name-of (Some name) text is valid said value = ap (λ (n : List ℕ). Some n) value

@@ -1,6 +1,7 @@
-use Rattle.std.proofs.Common.{◌≤◌, ◌∙◌, refl, sym, subst, arith}
-use Rattle.store_model.specs.Disk.{Areas, Disk, May}
+use Rattle.std.proofs.Common.{◌≤◌, ◌∙◌, take, refl, subst, arith}
+use Rattle.store_model.specs.Disk.{Areas, May}
 use Rattle.receiver_chain.specs.Chain.{attached_of}
+use Rattle.journal_book.specs.Kept.{SpellEntries}
 use Rattle.library_steps.specs.declared.limits.TheConstants.{MOST_LIBRARY_BYTES}
 use Rattle.library_steps.specs.Ranges.{library_bytes}
 use Rattle.opened_library.proofs.BuiltLemmas.{is-built, is-journaled, none-begun, none-saved}
@@ -12,8 +13,8 @@ may_deposit-requires-clause-none g c = none-begun c.args.contents.state (attache
 pub may_deposit-requires-clause-unsaved : goal.may_deposit-requires-clause-unsaved
 may_deposit-requires-clause-unsaved g c = none-saved c.args.contents.state (attached_of c.args.journal.chain) c.requires.left
 
-pub over-requires : goal.over-requires
-over-requires g c =
+pub over-library-requires : goal.over-library-requires
+over-library-requires g c =
     is-journaled c.args.contents.state (attached_of c.args.journal.chain) c.requires.left g.S.Store.tells (g.S.Store.disk c.args.store) c.args.journal refl c.requires.held
     (c.if-not-stands_behind.ensures.first refl) (c.if-not-stands_behind.ensures.last refl ∙ c.requires.counted) (c.if-not-stands_behind.ensures.little refl) c.requires.receiver
     (c.if-not-may_deposit.ensures refl)
@@ -24,4 +25,6 @@ returns-clause-built g c =
     let alive = c.failed-failed.ensures.failed ∙ c.over-library.ensures.stands.alive in
     is-built g.S.Store.tells (g.S.Store.disk c.args.store) c.over-library.result c.args.journal c.args.contents.state (attached_of c.args.journal.chain) c.requires.left few
     c.over-library.ensures.book c.requires.nothing_waits c.requires.receiver c.over-library.ensures.stands (c.failed-failed.ensures.all alive)
-    (subst (λ (it : _). g.S.Store.tells → (areas : Areas) → May (g.S.Store.disk it) areas → _) c.over-library.ensures.store c.over-library.ensures.left)
+    (subst (λ (it : g.row.S.Denot). g.S.Store.tells → (areas : Areas) → May (g.S.Store.disk it) areas
+    → SpellEntries c.over-library.result.book.chain.first (take c.over-library.result.book.forced c.over-library.result.state.entries) areas) c.over-library.ensures.store
+    c.over-library.ensures.left)

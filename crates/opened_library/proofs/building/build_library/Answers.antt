@@ -10,18 +10,18 @@ restarted_contents-requires g c = record { left = c.requires.left.left }
 
 pub begin_library-requires-clause-left : goal.begin_library-requires-clause-left
 begin_library-requires-clause-left g c =
-    left-at c.in-Ok.contents.state (attached_of c.args.restarted.journal.chain) c.attached.result c.args.restarted.entries.items c.attached.ensures c.in-Ok.ensures.left
+    left-at c.in-Ok.contents.state (attached_of c.args.restarted.journal.chain) c.attached-attached.result c.args.restarted.entries.items c.attached-attached.ensures c.in-Ok.ensures.left
 
 pub begin_library-requires-clause-held : goal.begin_library-requires-clause-held
 begin_library-requires-clause-held g c = λ tells.
     subst (λ (all : List Entry). Holds c.args.restarted.journal all (g.S.Store.disk c.args.store))
-    (sym (entries-left c.in-Ok.contents.state c.attached.result c.args.restarted.entries.items c.in-Ok.ensures.left)) (c.requires.held tells)
+    (sym (entries-left c.in-Ok.contents.state c.attached-attached.result c.args.restarted.entries.items c.in-Ok.ensures.left)) (c.requires.held tells)
 
 pub begin_library-requires-clause-counted : goal.begin_library-requires-clause-counted
 begin_library-requires-clause-counted g c =
-    c.len.ensures ∙ ap (λ (all : List Entry). length all) (sym (entries-left c.in-Ok.contents.state c.attached.result c.args.restarted.entries.items c.in-Ok.ensures.left))
+    c.len-count.ensures ∙ ap (λ (all : List Entry). length all) (sym (entries-left c.in-Ok.contents.state c.attached-attached.result c.args.restarted.entries.items c.in-Ok.ensures.left))
 
 pub returns-in-Ok-clause-built : goal.returns-in-Ok-clause-built
 returns-in-Ok-clause-built g c =
     built-of g.S.Store.tells (g.S.Store.disk c.args.store) c.in-Ok.contents.state.entries c.args.restarted.entries.items c.begin_library.result
-    (entries-left c.in-Ok.contents.state c.attached.result c.args.restarted.entries.items c.in-Ok.ensures.left) c.begin_library.ensures.built
+    (entries-left c.in-Ok.contents.state c.attached-attached.result c.args.restarted.entries.items c.in-Ok.ensures.left) c.begin_library.ensures.built

@@ -13,16 +13,16 @@ build_library-requires g c =
     at-rest g.S.Store.tells (g.S.Store.disk c.args.store) (g.S.Store.disk c.restart_journal.new.store) _ _ c.in-Ok.restarted.journal c.in-Ok.restarted.entries.items c.in-Ok.restarted.replay
     c.in-Ok.ensures.restarted
 
-pub returns-clause-opened : goal.returns-clause-opened
-returns-clause-opened g c =
+pub returns-in-Ok-clause-opened : goal.returns-in-Ok-clause-opened
+returns-in-Ok-clause-opened g c =
     if-opened c.restarted_libraries_are_sound.ensures g.S.Store.tells g.S.Store.disk (g.S.Store.disk c.args.store) c.restart_journal.new.store c.in-Ok.restarted.journal
     c.in-Ok.restarted.entries.items c.in-Ok.restarted.replay c.build_library.result
     (restarted-by g.S.Store.tells (g.S.Store.disk c.args.store) (g.S.Store.disk c.restart_journal.new.store) _ _ _ _ _ c.restarter.ensures.job c.restarter.ensures.moment c.in-Ok.ensures.restarted)
     (restarts-by g.S.Store.tells (g.S.Store.disk c.args.store) (g.S.Store.disk c.restart_journal.new.store) _ _ c.restarter.ensures.job c.restarter.ensures.moment c.restart_journal.ensures.moments)
     c.restart_journal.ensures.faults c.in-Ok.ensures.durable c.build_library.ensures.built c.build_library.ensures.store
 
-pub returns-clause-refused : goal.returns-clause-refused
-returns-clause-refused g c =
+pub returns-in-Ok-clause-refused : goal.returns-in-Ok-clause-refused
+returns-in-Ok-clause-refused g c =
     not-built g.S.Store.tells g.S.Store.disk (g.S.Store.disk c.args.store) c.restart_journal.new.store c.build_library.result
     (restarts-by g.S.Store.tells (g.S.Store.disk c.args.store) (g.S.Store.disk c.restart_journal.new.store) _ _ c.restarter.ensures.job c.restarter.ensures.moment c.restart_journal.ensures.moments)
     c.build_library.ensures.refused
