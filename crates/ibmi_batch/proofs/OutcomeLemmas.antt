@@ -1,7 +1,6 @@
 -- What the parts of a command come to is the outcome of the command.
-use Rattle.std.proofs.Common.{◌≡◌, ◌≤◌, ◌∙◌, ◌++◌, ℕ, inl, inr, true, false, List, [], length, refl, sym, ap, subst, arith, length-append}
+use Rattle.std.proofs.Common.{◌≡◌, ◌∙◌, ℕ, inl, inr, true, false, List, [], length, refl, sym, ap, subst, arith, length-append}
 use Rattle.text_lines.specs.Lines.{lines_of}
-use Rattle.store_model.specs.Disk.{Stays}
 use Rattle.store_model.proofs.Runs.{leaves_stays}
 use Rattle.entry_codec.specs.declared.entries.Entry.{Entry}
 use Rattle.gated_log.specs.Blocks.{header}
@@ -15,8 +14,8 @@ use Rattle.restart_model.specs.Libraries.{restart_job}
 use Rattle.restart_model.specs.Sources.{descriptions}
 use Rattle.ibmi_batch.specs.declared.status.Status.{Status}
 use Rattle.ibmi_batch.specs.declared.status.Status.TheVariants.{Done, Words, ReadFault, TooLong, Script, NotALibrary, Damaged, StoreFault, WriteFault, NoMemory, JobsEnded, Exists}
-use Rattle.ibmi_batch.specs.Storing.{Storing, IsUntouched, WasEmpty, WasSomething, IsEmpty, SpelledBefore, IsRestart}
-use Rattle.ibmi_batch.specs.Outcome.{Reading, Writing, NothingWritten, IsRead, RunOver, WasRun, IsInOrder, IsOrderly, IsOutcome}
+use Rattle.ibmi_batch.specs.Storing.{Storing, IsUntouched, IsEmpty, SpelledBefore, IsRestart}
+use Rattle.ibmi_batch.specs.Outcome.{Reading, Writing, NothingWritten, IsRead, RunOver, WasRun, IsOrderly, IsOutcome}
 use Rattle.ibmi_batch.specs.Parts.{IsUnread, Makes, IsRefused, Shows, ShownOver, RunsJobs}
 use Rattle.ibmi_batch.specs.Words.{are_command_words, are_display_words, are_format_words, are_job_words, are_open_words}
 

@@ -1,12 +1,9 @@
 -- What a library that was opened, and a session that ran over it, come to together.
-use Rattle.std.proofs.Common.{◌≡◌, ◌≤◌, ◌∙◌, ◌++◌, ℕ, inl, inr, true, false, List, [], length, take, refl, sym, ap, subst, arith}
+use Rattle.std.proofs.Common.{◌≡◌, ◌∙◌, ◌++◌, ℕ, inl, inr, true, false, List, [], length, refl, sym, ap, subst, arith}
 use Rattle.std.proofs.lemmas.List.{take_all}
-use Rattle.store_model.specs.Disk.{Areas, Disk, Leaves, May}
+use Rattle.store_model.specs.Disk.{Disk, Leaves}
 use Rattle.store_model.specs.Faults.{Rose}
 use Rattle.store_model.proofs.Runs.{leaves_less, leaves_then}
-use Rattle.entry_codec.specs.declared.entries.Entry.{Entry}
-use Rattle.receiver_chain.specs.declared.numbers.TheConstants.{FIRST_RECEIVER}
-use Rattle.journal_book.specs.Kept.{SpellEntries}
 use Rattle.journal_opening.specs.declared.fault.OpenFault.{OpenFault}
 use Rattle.journal_opening.specs.declared.fault.OpenFault.TheVariants as fault
 use Rattle.library_model.specs.declared.calls.Call.{Call}
@@ -19,7 +16,6 @@ use Rattle.input_scripts.specs.declared.Schedule.{Schedule}
 use Rattle.input_scripts.specs.declared.Schedule.TheVariants.{Jobs, RoundRobin}
 use Rattle.input_scripts.specs.declared.Scripts.{Scripts}
 use Rattle.job_runner.specs.Asked.{AreAsked}
-use Rattle.job_runner.specs.Ended.{has_ended}
 use Rattle.job_runner.specs.Made.{AreGiven}
 use Rattle.job_runner.specs.Moments.{HasRun as HasRunOver, StandsForced}
 use Rattle.job_runner.specs.Places.{BeginsJobs}
@@ -33,7 +29,7 @@ use Rattle.restarted_journal.specs.Restarts.{MayRestart}
 use Rattle.ibmi_batch.specs.declared.status.Status.{Status}
 use Rattle.ibmi_batch.specs.declared.status.Status.TheVariants.{StoreFault}
 use Rattle.ibmi_batch.specs.Opening.{status_of}
-use Rattle.ibmi_batch.specs.Outcome.{HasRun, HaveEnded, IsCutShort, IsStanding, RunOver, Writing}
+use Rattle.ibmi_batch.specs.Outcome.{HasRun, IsCutShort, IsStanding, RunOver, Writing}
 use Rattle.ibmi_batch.specs.Parts.{IsUnopened, RunsJobs, SessionRan}
 use Rattle.ibmi_batch.specs.Storing.{MayRun}
 use Rattle.ibmi_batch.specs.Words.{are_serial_words}

@@ -1,5 +1,5 @@
 -- What was written of a library's display, and what became of the store meanwhile.
-use Rattle.std.proofs.Common.{◌≡◌, inl, inr, List, refl, sym, subst}
+use Rattle.std.proofs.Common.{◌≡◌, inl, inr, List, sym, subst}
 use Rattle.store_model.specs.Disk.{Disk}
 use Rattle.entry_codec.specs.declared.entries.Entry.{Entry}
 use Rattle.library_steps.specs.State.{State}
@@ -8,7 +8,7 @@ use Rattle.opened_library.specs.Opened.{IsOpenedLibrary, Restarts}
 use Rattle.ibmi_batch.specs.declared.status.Status.{Status}
 use Rattle.ibmi_batch.specs.declared.status.Status.TheVariants.{Done, Words, ReadFault, TooLong, Script, NotALibrary, Damaged, StoreFault, WriteFault, NoMemory, JobsEnded, Exists}
 use Rattle.ibmi_batch.specs.Outcome.{Writing}
-use Rattle.ibmi_batch.specs.Parts.{Displays, ShownOver, Shows}
+use Rattle.ibmi_batch.specs.Parts.{Displays, Shows}
 use Rattle.ibmi_batch.specs.Storing.{Storing, IsRestart, IsStart}
 
 module _ (storing : Storing) (before : List Entry) (shown : State) (starts : IsStart storing before shown) (restart : IsRestart storing) (writing : Writing) where

@@ -1,4 +1,4 @@
-use Rattle.std.proofs.Common.{◌≡◌, ℕ, List, true, false, refl, map, rules}
+use Rattle.std.proofs.Common.{◌≡◌, true, false, refl, map, rules}
 use Rattle.std.specs.String.{string_bytes}
 use Rattle.checkpoint.proofs.Formats.{stays_here}
 use Rattle.ibmi_batch.specs.Words.{are_display_words, are_format_words, are_job_words}

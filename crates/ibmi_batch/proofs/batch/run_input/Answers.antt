@@ -1,4 +1,4 @@
-use Rattle.std.proofs.Common.{◌≡◌, ℕ, List, refl, map}
+use Rattle.std.proofs.Common.{refl, map}
 use Rattle.std.specs.String.{string_bytes}
 use Rattle.checkpoint.proofs.Formats.{stays_here}
 use Rattle.ibmi_batch.proofs.OutcomeLemmas.{outcome-run, outcome-unread}

@@ -1,7 +1,6 @@
-use Rattle.std.proofs.Common.{◌≡◌, inr, refl, sym, subst, map}
+use Rattle.std.proofs.Common.{inr, refl, map}
 use Rattle.std.specs.String.{string_bytes}
 use Rattle.ibmi_batch.proofs.RunLemmas.{runs-over, unopened}
-use Rattle.opened_library.specs.Opened.{Restarts}
 use Rattle.ibmi_batch.proofs.running.run_scripts.Goals as goal
 
 pub returns-in-Err : goal.returns-in-Err

@@ -1,4 +1,4 @@
-use Rattle.std.proofs.Common.{◌≡◌, List, map}
+use Rattle.std.proofs.Common.{map}
 use Rattle.std.specs.String.{string_bytes}
 use Rattle.ibmi_batch.proofs.RunLemmas.{session-at, session-outcome, session-ran, session-rose}
 use Rattle.ibmi_batch.proofs.running.run_session.Goals as goal

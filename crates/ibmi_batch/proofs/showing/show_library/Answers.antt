@@ -1,4 +1,4 @@
-use Rattle.std.proofs.Common.{◌≡◌, inr, refl}
+use Rattle.std.proofs.Common.{inr, refl}
 use Rattle.ibmi_batch.proofs.RunLemmas.{unopened}
 use Rattle.ibmi_batch.proofs.ShownLemmas.{shows-displayed}
 use Rattle.ibmi_batch.proofs.showing.show_library.Goals as goal
