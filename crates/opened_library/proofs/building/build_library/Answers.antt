@@ -1,4 +1,4 @@
-use Rattle.std.proofs.Common.{List, length, sym, subst, ◌∙◌, ap}
+use Rattle.std.proofs.Common.{rules, ◌≡◌, ◌∙◌, List, length, sym, ap, subst}
 use Rattle.entry_codec.specs.declared.entries.Entry.{Entry}
 use Rattle.receiver_chain.specs.Chain.{attached_of}
 use Rattle.journal_book.specs.Book.{Holds}
@@ -19,7 +19,8 @@ begin_library-requires-clause-held g c = λ tells.
 
 pub begin_library-requires-clause-counted : goal.begin_library-requires-clause-counted
 begin_library-requires-clause-counted g c =
-    c.len-count.ensures ∙ ap (λ (all : List Entry). length all) (sym (entries-left c.in-Ok.contents.state c.attached-attached.result c.args.restarted.entries.items c.in-Ok.ensures.left))
+    let counted : c.len-count.result ≡ length c.args.restarted.entries.items = search (rules, c.len-count.ensures) in
+    counted ∙ ap (λ (all : List Entry). length all) (sym (entries-left c.in-Ok.contents.state c.attached-attached.result c.args.restarted.entries.items c.in-Ok.ensures.left))
 
 pub returns-in-Ok-clause-built : goal.returns-in-Ok-clause-built
 returns-in-Ok-clause-built g c =
