@@ -1,6 +1,6 @@
 -- How jobs begin in a library, and that each of them may make a call then and after each call that ends no job.
 use Rattle.std.proofs.Common.{◌≡◌, ◌≤◌, ◌<◌, ℕ, zero, suc, ◌+◌, ◌-◌, true, false, IsTrue, List, [], ◌∷◌, ◌++◌, length, map, slice_get, refl, sym, ◌∙◌, ap, subst, arith, length-append, ◌⊎◌, inl, inr}
-use Rattle.std.proofs.lemmas.List.{append_assoc, length-map, map-append}
+use Rattle.std.proofs.lemmas.List.{append-nil, append_assoc, length-map, map-append}
 use Rattle.std.proofs.lemmas.Bool.Decides.{nat_tests}
 use Rattle.library_model.specs.declared.requests.Request.{Request}
 use Rattle.library_model.specs.declared.sources.NamedSource.{NamedSource}
@@ -30,6 +30,18 @@ AreReady-on count job r old new ready goes_on alive runs sound = record {
   alive = alive;
   running = λ other first last. rw (runs other, runs-on job r old.state.jobs other goes_on) (ready.running other first last);
   sound = sound;
+}
+
+-- none has begun in a sound library that has no jobs
+pub HasBegun-none : {S : Type 0} (library : LibraryOver S) → library.failed ≡ false → IsSound library.state → library.state.jobs ≡ [] → HasBegun 0 library
+HasBegun-none library alive sound none = record {
+  start = library.state;
+  sound = sound;
+  none = none;
+  names = [];
+  many = refl;
+  alive = alive;
+  state = sym (ap (λ (jobs : List JobState). record library.state { jobs = jobs }) (append-nil library.state.jobs));
 }
 
 -- one more has begun

@@ -10,7 +10,7 @@ use store_model::MemoryStore;
 /// A command, its input, its status, and what it writes.
 type Step = (&'static str, &'static str, u8, &'static str);
 
-const FIRST: &str = "\
+pub(crate) const FIRST: &str = "\
 //DDS CUST
      A          R CUSTR
      A            NAME           5A
@@ -32,13 +32,13 @@ HISTORY
 END 5
 ";
 
-const EMPTY_DISPLAY: &str = "\
+pub(crate) const EMPTY_DISPLAY: &str = "\
 LIBRARY SEQ(0) RCV(1)
 END
 ";
 
 /// The record is gone: its member was never journaled.
-const FIRST_DISPLAY: &str = "\
+pub(crate) const FIRST_DISPLAY: &str = "\
 LIBRARY SEQ(1) RCV(1)
 FILE CUST *PHY
 SRC      A          R CUSTR
@@ -48,7 +48,7 @@ ENT 1 D CT JOB(J1) AT(0) GRP(0) MBR(1) RRN(0) KIND(*PHY) NAME(CUST) LEN(60)
 END
 ";
 
-const JOURNALED: &str = "\
+pub(crate) const JOURNALED: &str = "\
 //DDS CUST
      A          R CUSTR
      A            NAME           5A
@@ -89,6 +89,8 @@ const SECOND: &str = "\
 OPNDBF FILE(CUST) OPTION(*INP)
 READ OPNID(CUST)
 CHGJRN
+DLTJRNRCV RCV(1)
+MONMSG MSGID(StillNeeded)
 //END
 ";
 
@@ -97,8 +99,9 @@ HISTORY
 1 J2 0 OPNDBF FILE(CUST) OPTION(*INP) MBR(CUST) OPNID(CUST) COMMIT(*NO) ACCPTH(*FILE) => OK
 2 J2 1 READ OPNID(CUST) LCK(*DFT) => OK FMT(CUSTR) RRN(1) VAL('ABC  ')
 3 J2 2 CHGJRN => OK RCV(2)
-4 J2 3 ENDJOB REASON(*NORMAL) LINE(0) => OK
-END 4
+4 J2 3 DLTJRNRCV RCV(1) => StillNeeded SEQ(1)
+5 J2 4 ENDJOB REASON(*NORMAL) LINE(0) => OK
+END 5
 ";
 
 const SECOND_DISPLAY: &str = "\
@@ -116,7 +119,120 @@ ENT 5 J PR JOB(J2) AT(2) GRP(0) MBR(0) RRN(0) RCV(1)
 END
 ";
 
-const ROWS: [&[Step]; 4] = [
+/// The journal ends before the entry that is asked for.
+const ASKED: &str = "\
+//JOB J2
+DSPJRN FROMENT(1) TOENT(4)
+//END
+";
+
+const ASKED_LISTING: &str = "\
+HISTORY
+1 J2 0 DSPJRN FROMENT(1) TOENT(4) => NoSuchEntry
+2 J2 1 ENDJOB REASON(*ESCAPE) LINE(2) => OK
+END 2
+";
+
+/// Three records, of a member that has both images journaled.
+const SETUP: &str = "\
+//DDS CUST
+     A          R CUSTR
+     A            NAME           5A
+//JOB J1
+CRTPF FILE(CUST) SRC(CUST)
+STRJRNPF FILE(CUST) IMAGES(*BOTH)
+OPNDBF FILE(CUST) OPTION(*ALL)
+WRITE OPNID(CUST) VAL('A')
+WRITE OPNID(CUST) VAL('B')
+WRITE OPNID(CUST) VAL('C')
+//END
+";
+
+const SETUP_LISTING: &str = "\
+HISTORY
+1 J1 0 CRTPF FILE(CUST) SRC(CUST) => OK
+2 J1 1 STRJRNPF FILE(CUST) MBR(CUST) IMAGES(*BOTH) => OK
+3 J1 2 OPNDBF FILE(CUST) OPTION(*ALL) MBR(CUST) OPNID(CUST) COMMIT(*NO) ACCPTH(*FILE) => OK
+4 J1 3 WRITE OPNID(CUST) FMT(*FILE) RRN(*END) VAL('A') => OK RRN(1)
+5 J1 4 WRITE OPNID(CUST) FMT(*FILE) RRN(*END) VAL('B') => OK RRN(2)
+6 J1 5 WRITE OPNID(CUST) FMT(*FILE) RRN(*END) VAL('C') => OK RRN(3)
+7 J1 6 ENDJOB REASON(*NORMAL) LINE(0) => OK
+END 7
+";
+
+/// A commit cycle over the records of the run before, which is taken back.
+const CYCLE: &str = "\
+//JOB J1
+STRCMTCTL LCKLVL(*CHG)
+OPNDBF FILE(CUST) OPNID(U) OPTION(*ALL) COMMIT(*YES)
+CHAIN OPNID(U) RRN(2)
+UPDATE OPNID(U) VAL('B1')
+CHAIN OPNID(U) RRN(2)
+UPDATE OPNID(U) VAL('B2')
+WRITE OPNID(U) VAL('D')
+CHAIN OPNID(U) RRN(1)
+DELETE OPNID(U)
+ENDCMTCTL
+MONMSG MSGID(PendingChanges)
+STRCMTCTL LCKLVL(*CHG)
+MONMSG MSGID(AlreadyStarted)
+ROLLBACK
+//END
+";
+
+const CYCLE_LISTING: &str = "\
+HISTORY
+1 J1 0 STRCMTCTL LCKLVL(*CHG) => OK
+2 J1 1 OPNDBF FILE(CUST) OPTION(*ALL) MBR(CUST) OPNID(U) COMMIT(*YES) ACCPTH(*FILE) => OK
+3 J1 2 CHAIN OPNID(U) RRN(2) LCK(*DFT) => OK FMT(CUSTR) RRN(2) VAL('B    ')
+4 J1 3 UPDATE OPNID(U) VAL('B1') => OK
+5 J1 4 CHAIN OPNID(U) RRN(2) LCK(*DFT) => OK FMT(CUSTR) RRN(2) VAL('B1   ')
+6 J1 5 UPDATE OPNID(U) VAL('B2') => OK
+7 J1 6 WRITE OPNID(U) FMT(*FILE) RRN(*END) VAL('D') => OK RRN(4)
+8 J1 7 CHAIN OPNID(U) RRN(1) LCK(*DFT) => OK FMT(CUSTR) RRN(1) VAL('A    ')
+9 J1 8 DELETE OPNID(U) => OK
+10 J1 9 ENDCMTCTL => PendingChanges GRP(7)
+11 J1 10 STRCMTCTL LCKLVL(*CHG) => AlreadyStarted
+12 J1 11 ROLLBACK => OK
+13 J1 12 ENDJOB REASON(*NORMAL) LINE(0) => OK
+END 13
+";
+
+/// The entries of the cycle, that by which the job's end ends commitment control, and the place of the record that was added, which stays deleted.
+const CYCLE_DISPLAY: &str = "\
+LIBRARY SEQ(21) RCV(1)
+FILE CUST *PHY
+SRC      A          R CUSTR
+SRC      A            NAME           5A
+MBR CUST NBR(1) SLOTS(4) LIVE(3) JRN(*BOTH)
+RCD 1 'A    '
+RCD 2 'B    '
+RCD 3 'C    '
+ENT 1 D CT JOB(J1) AT(0) GRP(0) MBR(1) RRN(0) KIND(*PHY) NAME(CUST) LEN(60)
+ENT 2 F JM JOB(J1) AT(1) GRP(0) MBR(1) RRN(0) IMAGES(*BOTH) SLOTS(0)
+ENT 3 R PT JOB(J1) AT(3) GRP(0) MBR(1) RRN(1) IMG(1 'A    ')
+ENT 4 R PT JOB(J1) AT(4) GRP(0) MBR(1) RRN(2) IMG(1 'B    ')
+ENT 5 R PT JOB(J1) AT(5) GRP(0) MBR(1) RRN(3) IMG(1 'C    ')
+ENT 6 C BC JOB(J1) AT(0) GRP(0) MBR(0) RRN(0) LVL(*CHG)
+ENT 7 C SC JOB(J1) AT(3) GRP(7) MBR(0) RRN(0)
+ENT 8 R UB JOB(J1) AT(3) GRP(7) MBR(1) RRN(2) IMG(1 'B    ')
+ENT 9 R UP JOB(J1) AT(3) GRP(7) MBR(1) RRN(2) IMG(2 'B1   ')
+ENT 10 R UB JOB(J1) AT(5) GRP(7) MBR(1) RRN(2) IMG(1 'B1   ')
+ENT 11 R UP JOB(J1) AT(5) GRP(7) MBR(1) RRN(2) IMG(2 'B2   ')
+ENT 12 R PT JOB(J1) AT(6) GRP(7) MBR(1) RRN(4) IMG(1 'D    ')
+ENT 13 R DL JOB(J1) AT(8) GRP(7) MBR(1) RRN(1) IMG(1 'A    ')
+ENT 14 R UR JOB(J1) AT(11) GRP(7) MBR(1) RRN(1) IMG(1 'A    ')
+ENT 15 R DR JOB(J1) AT(11) GRP(7) MBR(1) RRN(4) IMG(1 'D    ')
+ENT 16 R BR JOB(J1) AT(11) GRP(7) MBR(1) RRN(2) IMG(1 'B2   ')
+ENT 17 R UR JOB(J1) AT(11) GRP(7) MBR(1) RRN(2) IMG(2 'B1   ')
+ENT 18 R BR JOB(J1) AT(11) GRP(7) MBR(1) RRN(2) IMG(1 'B1   ')
+ENT 19 R UR JOB(J1) AT(11) GRP(7) MBR(1) RRN(2) IMG(2 'B    ')
+ENT 20 C RB JOB(J1) AT(11) GRP(7) MBR(0) RRN(0)
+ENT 21 C EC JOB(J1) AT(12) GRP(0) MBR(0) RRN(0)
+END
+";
+
+const ROWS: [&[Step]; 5] = [
     &[
         ("INZ", "", 0, ""),
         ("DSP", "", 0, EMPTY_DISPLAY),
@@ -132,8 +248,15 @@ const ROWS: [&[Step]; 4] = [
         ("INZ", "", 0, ""),
         ("SERIAL", JOURNALED, 0, JOURNALED_LISTING),
         ("DSP", "", 0, JOURNALED_DISPLAY),
+        ("RUN", ASKED, 10, ASKED_LISTING),
         ("RUN", SECOND, 0, SECOND_LISTING),
         ("DSP", "", 0, SECOND_DISPLAY),
+    ],
+    &[
+        ("INZ", "", 0, ""),
+        ("RUN", SETUP, 0, SETUP_LISTING),
+        ("SERIAL", CYCLE, 0, CYCLE_LISTING),
+        ("DSP", "", 0, CYCLE_DISPLAY),
     ],
     &[
         ("RUN", FIRST, 5, ""),

@@ -1,8 +1,11 @@
-//! Runs over a store: commands one after another (`commands.rt`), stores that are refused or fail (`statuses.rt`), and stops within a run (`stops.rt`).
+//! Runs over a store: commands one after another (`commands.rt`), stores that are damaged or fail (`statuses.rt`), stops within a run (`stops.rt`),
+//! faults within a run and stops within a restart (`faults.rt`).
 #![tactic(auto)]
 
 #[cfg(test)]
 mod commands;
+#[cfg(test)]
+mod faults;
 #[cfg(test)]
 mod runs;
 #[cfg(test)]

@@ -1,14 +1,16 @@
 //! A command over a store in memory.
 use ibmi_batch::batch::program;
+use ibmi_batch::status::Status;
 use std::alloc::{AllocError, Global};
 use std::sync::Wait;
 use std::thread::Threads;
 use store_model::{MemorySink, MemorySource, MemoryStore, OpenGate, StepClock};
 
-/// What came of a command: its status, what it wrote, and the store.
+/// What came of a command: its status, where the store is damaged, what it wrote, and the store.
 #[derive(Drop)]
 pub(crate) struct Outcome {
     pub(crate) status: u8,
+    pub(crate) damage: Option<(u32, u64)>,
     pub(crate) written: MemorySink,
     pub(crate) store: MemoryStore,
 }
@@ -44,9 +46,18 @@ pub(crate) fn run<R: Threads + Wait + Sync>(
     );
     Ok(Outcome {
         status: status.number(),
+        damage: damage_of(status),
         written,
         store,
     })
+}
+
+/// The area and the place at which a status says that the store is damaged.
+fn damage_of(status: Status) -> Option<(u32, u64)> {
+    match status {
+        Status::Damaged { area, at } => Some((area, at)),
+        _ => None,
+    }
 }
 
 /// A store with a library in which nothing is.

@@ -1,6 +1,5 @@
-//! A run that is stopped at each of its store calls in turn, and each image that the stop may have left, opened again; and the same
-//! run with a fault at each call.
-use crate::runs::{made, run};
+//! Runs that are stopped at each of their store calls in turn, with each image that the stop may have left opened again.
+use crate::runs::{Outcome, made, run};
 use std::alloc::{AllocError, Global};
 use std::process::Abort;
 use std::sync::Wait;
@@ -8,11 +7,100 @@ use std::test::Fail;
 use std::thread::Threads;
 use store_model::MemoryStore;
 
-/// More calls than the run has on its store.
-const MOST_CALLS: u64 = 400;
+/// More calls than a run has on its store.
+pub(crate) const MOST_CALLS: u64 = 1_000;
 
-/// Twenty calls: changes outside commitment control, a commit cycle that is committed and one that is taken back.
-const INPUT: &str = "\
+/// A command, its input, and the records that are shown behind each number of acknowledged calls.
+#[derive(Clone, Copy)]
+pub(crate) struct Run {
+    pub(crate) command: &'static str,
+    pub(crate) input: &'static str,
+    pub(crate) lists: &'static [&'static str],
+}
+
+const EMPTY: &str = "FILE CUST *PHY\n";
+
+const A: &str = "FILE CUST *PHY\nRCD 1 'A    '\n";
+
+const AB: &str = "FILE CUST *PHY\nRCD 1 'A    '\nRCD 2 'B    '\n";
+
+const ABC: &str = "FILE CUST *PHY\nRCD 1 'A    '\nRCD 2 'B    '\nRCD 3 'C    '\n";
+
+const ABCX: &str = "\
+FILE CUST *PHY
+RCD 1 'A    '
+RCD 2 'B    '
+RCD 3 'C    '
+RCD 4 'X    '
+";
+
+const COMMITTED: &str = "\
+FILE CUST *PHY
+RCD 1 'A    '
+RCD 2 'B1   '
+RCD 3 'C    '
+RCD 4 'X    '
+";
+
+/// Nineteen calls of two jobs: what one writes forces a commit cycle of the other, which is committed; a second one is taken back.
+pub(crate) const TWO_JOBS: Run = Run {
+    command: "SERIAL",
+    input: "\
+//DDS CUST
+     A          R CUSTR
+     A            NAME           5A
+//JOB J1
+CRTPF FILE(CUST) SRC(CUST)
+STRJRNPF FILE(CUST) IMAGES(*BOTH)
+OPNDBF FILE(CUST) OPTION(*ALL)
+WRITE OPNID(CUST) VAL('A')
+WRITE OPNID(CUST) VAL('B')
+WRITE OPNID(CUST) VAL('C')
+STRCMTCTL LCKLVL(*CHG)
+OPNDBF FILE(CUST) OPNID(U) OPTION(*ALL) COMMIT(*YES)
+CHAIN OPNID(U) RRN(2)
+UPDATE OPNID(U) VAL('B1')
+COMMIT
+CHGJRN
+CHAIN OPNID(U) RRN(1)
+UPDATE OPNID(U) VAL('A1')
+ROLLBACK
+//JOB J2
+OPNDBF FILE(CUST) OPTION(*ALL)
+WRITE OPNID(CUST) VAL('X')
+//SCHED J1 J1 J1 J1 J1 J1 J1 J1 J1 J1 J2 J2
+//END
+",
+    lists: &[
+        "", EMPTY, EMPTY, EMPTY, A, AB, ABC, ABC, ABC, ABC, ABC, ABC, ABCX, COMMITTED, COMMITTED,
+        COMMITTED, COMMITTED, COMMITTED, COMMITTED, COMMITTED,
+    ],
+};
+
+const ABCDE: &str = "\
+FILE CUST *PHY
+RCD 1 'A    '
+RCD 2 'B    '
+RCD 3 'C    '
+RCD 4 'D    '
+RCD 5 'E    '
+";
+
+/// The place of the record that was taken back stays deleted.
+const ABCDEG: &str = "\
+FILE CUST *PHY
+RCD 1 'A    '
+RCD 2 'B    '
+RCD 3 'C    '
+RCD 4 'D    '
+RCD 5 'E    '
+RCD 7 'G    '
+";
+
+/// Twenty calls of one job: changes outside commitment control, a commit cycle that is committed and one that is taken back.
+pub(crate) const ONE_JOB: Run = Run {
+    command: "RUN",
+    input: "\
 //DDS CUST
      A          R CUSTR
      A            NAME           5A
@@ -38,90 +126,198 @@ ENDCMTCTL
 OPNDBF FILE(CUST) OPTION(*ALL)
 WRITE OPNID(CUST) VAL('G')
 //END
-";
+",
+    lists: &[
+        "", EMPTY, EMPTY, EMPTY, A, AB, ABC, ABC, ABC, ABC, ABC, ABC, ABCDE, ABCDE, ABCDE, ABCDE,
+        ABCDE, ABCDE, ABCDE, ABCDEG, ABCDEG,
+    ],
+};
 
-/// How many records a library shows that stands behind so many acknowledged calls: at least those, at most one call's more.
-const RECORDS: [usize; 21] = [
-    0, 0, 0, 0, 1, 2, 3, 3, 3, 3, 3, 3, 5, 5, 5, 5, 5, 5, 5, 6, 6,
-];
-
-/// How many lines of the text begin so.
-fn lines_with(text: &str, front: &str) -> usize {
-    text.lines().filter(|line| line.starts_with(front)).count()
+/// How many lines of the text begin and end so.
+fn lines_with(text: &str, front: &str, end: &str) -> usize {
+    text.lines()
+        .filter(|line| line.starts_with(front) && line.ends_with(end))
+        .count()
 }
 
-/// How many calls of a listing were answered otherwise than by a store fault.
-fn answered(text: &str) -> usize {
+/// How many calls of a listing were acknowledged: all but one that found the store at fault.
+pub(crate) fn acknowledged(text: &str) -> usize {
     text.lines()
         .filter(|line| line.contains(" => ") && !line.ends_with(" => StoreFault"))
         .count()
 }
 
-/// The image can be opened, and shows what was acknowledged and nothing but whole calls.
-fn image_holds<R: Threads + Wait + Sync + Abort>(
+/// The lines of a display that tell of files and records.
+pub(crate) fn list_of(alloc: Global, text: &str) -> Result<String, AllocError> {
+    let mut list = String::new(alloc);
+    for line in text.lines() {
+        if line.starts_with("FILE ") || line.starts_with("RCD ") {
+            list.push_str(line)?;
+            list.push_str("\n")?;
+        }
+    }
+    Ok(list)
+}
+
+/// The list behind so many calls; that behind the last call where there are fewer.
+fn list_behind(run: Run, calls: usize) -> &'static str {
+    let last = run.lists.len().saturating_sub(1);
+    run.lists.get(calls.min(last)).copied().unwrap_or("")
+}
+
+/// The image can be opened, and shows the list of the last acknowledged call or of the one after it. Hands back what it shows.
+pub(crate) fn image_holds<R: Threads + Wait + Sync + Abort>(
     rt: &R,
     alloc: Global,
     image: MemoryStore,
+    done: Run,
     calls: usize,
     stop: u64,
-) -> Result<(), AllocError> {
+) -> Result<String, AllocError> {
     let shown = run(rt, alloc, image, "DSP", "")?;
     assert_eq!(rt; shown.status, 0, "stopped at {stop}");
-    let records = lines_with(shown.text(), "RCD ");
-    let least = RECORDS[calls.min(20)];
-    let most = RECORDS[calls.saturating_add(1).min(20)];
-    assert!(rt; least <= records && records <= most, "stopped at {stop}: {records} records behind {calls} calls");
+    let list = list_of(alloc, shown.text())?;
+    let least = list_behind(done, calls);
+    let most = list_behind(done, calls.saturating_add(1));
+    assert!(rt;
+        list.as_str() == least || list.as_str() == most,
+        "stopped at {stop} behind {calls} calls"
+    );
+    // A receiver that ended has the next one, which begins with its entry, and which is attached.
+    let ended = lines_with(shown.text(), "ENT ", " RCV(2)");
+    assert_eq!(rt;
+        lines_with(shown.text(), "ENT ", " RCV(1)"),
+        ended,
+        "stopped at {stop}"
+    );
+    assert_eq!(rt;
+        lines_with(shown.text(), "LIBRARY ", " RCV(2)"),
+        ended,
+        "stopped at {stop}"
+    );
     // What was shown is on the disk: the same is shown again.
     let again = run(rt, alloc, shown.store, "DSP", "")?;
     assert_eq!(rt; again.status, 0);
-    assert_eq!(rt; lines_with(again.text(), "RCD "), records);
-    Ok(())
+    assert_eq!(rt;
+        again.written.bytes(),
+        shown.written.bytes(),
+        "stopped at {stop}"
+    );
+    Ok(list)
 }
 
+/// A library in which nothing is, over a store that has made no call.
+pub(crate) fn fresh<R: Threads + Wait + Sync>(
+    rt: &R,
+    alloc: Global,
+) -> Result<MemoryStore, AllocError> {
+    copied(alloc, &made(rt, alloc)?)
+}
+
+/// A store with the same areas that has made no call; they are on the disk.
+pub(crate) fn copied(alloc: Global, store: &MemoryStore) -> Result<MemoryStore, AllocError> {
+    let mut images = store.stop_images(alloc)?;
+    match images.pop() {
+        Some(image) => Ok(image),
+        None => Ok(MemoryStore::new(alloc)),
+    }
+}
+
+/// Does the run up to a call of its store, counted from 1, from which on each fails.
+pub(crate) fn stopped<R: Threads + Wait + Sync>(
+    rt: &R,
+    alloc: Global,
+    done: Run,
+    stop: u64,
+) -> Result<Outcome, AllocError> {
+    let mut store = fresh(rt, alloc)?;
+    store.stop_at(stop);
+    run(rt, alloc, store, done.command, done.input)
+}
+
+/// Each image of a stop holds what it has to; tells whether the run was stopped.
 fn stop_is_survived<R: Threads + Wait + Sync + Abort>(
     rt: &R,
     alloc: Global,
-    library: MemoryStore,
+    done: Run,
     stop: u64,
 ) -> Result<bool, AllocError> {
-    let mut store = library;
-    store.stop_at(stop);
-    let ran = run(rt, alloc, store, "RUN", INPUT)?;
+    let ran = stopped(rt, alloc, done, stop)?;
     if ran.status == 0 {
         return Ok(false);
     }
     assert_eq!(rt; ran.status, 7, "stopped at {stop}");
-    let calls = answered(ran.text());
+    let calls = acknowledged(ran.text());
     for image in ran.store.stop_images(alloc)? {
-        image_holds(rt, alloc, image, calls, stop)?;
+        image_holds(rt, alloc, image, done, calls, stop)?;
     }
     Ok(true)
 }
 
-#[test]
-fn every_stop_leaves_whole_calls(rt: HostRuntime) -> Result<(), Fail> {
-    let mut stopped = 0;
-    for stop in 1..MOST_CALLS {
-        if stop_is_survived(&rt, rt.alloc(), made(&rt, rt.alloc())?, stop)? {
-            stopped = stop;
+/// Stops a run at every fourth call of its store from one on, up to its end.
+fn stops_are_survived<R: Threads + Wait + Sync + Abort>(
+    rt: &R,
+    alloc: Global,
+    done: Run,
+    first: u64,
+) -> Result<(), AllocError> {
+    let mut ended = false;
+    for step in 0..MOST_CALLS / 4 {
+        let stop = first.saturating_add(step.saturating_mul(4));
+        if !stop_is_survived(rt, alloc, done, stop)? {
+            assert!(rt; stop > 40, "the run has {stop} calls of its store");
+            ended = true;
+            break;
         }
     }
-    // The run has some store calls, and was stopped at each of them.
-    assert!(&rt; stopped > 40 && stopped < MOST_CALLS - 1);
+    assert!(rt; ended);
     Ok(())
 }
 
 #[test]
-fn after_every_fault_the_library_opens_again(rt: HostRuntime) -> Result<(), Fail> {
-    for call in 1..MOST_CALLS {
-        let mut store = made(&rt, rt.alloc())?;
-        store.fail_at(call);
-        let ran = run(&rt, rt.alloc(), store, "RUN", INPUT)?;
-        assert!(&rt; ran.status == 0 || ran.status == 7, "fault at {call}");
-        let calls = answered(ran.text());
-        if ran.status == 7 {
-            image_holds(&rt, rt.alloc(), ran.store, calls, call)?;
-        }
-    }
+fn two_jobs_stopped_from_the_first_call(rt: HostRuntime) -> Result<(), Fail> {
+    stops_are_survived(&rt, rt.alloc(), TWO_JOBS, 1)?;
+    Ok(())
+}
+
+#[test]
+fn two_jobs_stopped_from_the_second_call(rt: HostRuntime) -> Result<(), Fail> {
+    stops_are_survived(&rt, rt.alloc(), TWO_JOBS, 2)?;
+    Ok(())
+}
+
+#[test]
+fn two_jobs_stopped_from_the_third_call(rt: HostRuntime) -> Result<(), Fail> {
+    stops_are_survived(&rt, rt.alloc(), TWO_JOBS, 3)?;
+    Ok(())
+}
+
+#[test]
+fn two_jobs_stopped_from_the_fourth_call(rt: HostRuntime) -> Result<(), Fail> {
+    stops_are_survived(&rt, rt.alloc(), TWO_JOBS, 4)?;
+    Ok(())
+}
+
+#[test]
+fn one_job_stopped_from_the_first_call(rt: HostRuntime) -> Result<(), Fail> {
+    stops_are_survived(&rt, rt.alloc(), ONE_JOB, 1)?;
+    Ok(())
+}
+
+#[test]
+fn one_job_stopped_from_the_second_call(rt: HostRuntime) -> Result<(), Fail> {
+    stops_are_survived(&rt, rt.alloc(), ONE_JOB, 2)?;
+    Ok(())
+}
+
+#[test]
+fn one_job_stopped_from_the_third_call(rt: HostRuntime) -> Result<(), Fail> {
+    stops_are_survived(&rt, rt.alloc(), ONE_JOB, 3)?;
+    Ok(())
+}
+
+#[test]
+fn one_job_stopped_from_the_fourth_call(rt: HostRuntime) -> Result<(), Fail> {
+    stops_are_survived(&rt, rt.alloc(), ONE_JOB, 4)?;
     Ok(())
 }

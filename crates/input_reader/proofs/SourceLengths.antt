@@ -1,5 +1,5 @@
 -- No source of an input is longer than the input.
-use Rattle.std.proofs.Common.{◌≡◌, ℕ, ◌+◌, ◌≤◌, cond, true, false, Option, Some, None, List, [], ◌∷◌, ◌++◌, length, eqb, refl, sym, ap, ◌∙◌, ⊎_elim, arith, length-append}
+use Rattle.std.proofs.Common.{◌≡◌, ℕ, ◌+◌, ◌≤◌, Option, Some, None, List, [], ◌∷◌, ◌++◌, length, eqb, refl, ◌∙◌, ⊎_elim, arith, length-append}
 use Rattle.std.specs.List.{AllByRecursion, filter_map, cons_option}
 use Rattle.std.specs.Option.{option_map}
 use Rattle.std.proofs.lemmas.Bool.{cases_Bool, cond-true, cond-false}
@@ -11,7 +11,7 @@ use Rattle.input_reader.specs.Input.{input_of, source_in}
 use Rattle.library_model.specs.declared.sources.NamedSource.{NamedSource}
 
 -- the bytes of lines, each with its line feed
-size : List (List ℕ) → ℕ
+abbrev size : List (List ℕ) → ℕ
 size [] = 0
 size (line ∷ lines) = length line + 1 + size lines
 
@@ -42,6 +42,7 @@ before-size (line ∷ lines) = ⊎_elim
     (cases_Bool (is_card line))
 
 parts-size : (most number : ℕ) (lines : List (List ℕ)) → size lines ≤ most → AllByRecursion (λ (part : Part). size part.lines ≤ most) (parts_from number lines)
+unfolding parts_from
 parts-size most number [] le = tt
 parts-size most number (line ∷ lines) le = ⊎_elim
     (λ card. rw (cond-true (is_card line) (record { line = number; card = card_of line; lines = before_card lines } ∷ parts_from (number + 1) lines) (parts_from (number + 1) lines) card)
@@ -50,22 +51,18 @@ parts-size most number (line ∷ lines) le = ⊎_elim
     (parts-size most (number + 1) lines (omega (arith, le))))
     (cases_Bool (is_card line))
 
-unfolding parts_from
-
 -- none of these is longer
 abbrev AreWithin : (most : ℕ) → List NamedSource → Type 0
 AreWithin most sources = AllByRecursion (λ source. length source.text ≤ most) sources
 
 named-within : (most : ℕ) (parts : List Part) → AllByRecursion (λ (part : Part). size part.lines ≤ most) parts → AreWithin most (filter_map source_in parts)
 named-within most [] all = tt
-named-within most (part ∷ parts) all = one (source_name part.card)
+named-within most (part ∷ parts) all = one (source_name part.card) (named-within most parts all.1)
   where
-    rest : AreWithin most (filter_map source_in parts)
-    rest = named-within most parts all.1
-
-    one : (name : Option (List ℕ)) → AreWithin most (cons_option (option_map (λ n. record { name = n; text = text_of_lines part.lines }) name) (filter_map source_in parts))
-    one None = rest
-    one (Some name) = (let its = all.0 in omega (arith, text-size part.lines, its), rest)
+    one : (name : Option (List ℕ)) → AreWithin most (filter_map source_in parts)
+        → AreWithin most (cons_option (option_map (λ n. record { name = n; text = text_of_lines part.lines }) name) (filter_map source_in parts))
+    one None rest = rest
+    one (Some name) rest = (let its = all.0 in omega (arith, text-size part.lines, its), rest)
 
 pub sources-within : (bytes : List ℕ) → AllByRecursion (λ source. length source.text ≤ length bytes + 1) (input_of (lines_of bytes)).sources
 sources-within bytes = named-within (length bytes + 1) (parts_of (lines_of bytes)) (parts-size (length bytes + 1) 1 (lines_of bytes) (lines-size bytes))
