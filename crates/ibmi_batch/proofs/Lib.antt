@@ -1,4 +1,5 @@
 mod OutcomeLemmas
 mod RunLemmas
 mod ShortLemmas
+mod ShownLemmas
 mod WordLemmas

@@ -1,11 +1,11 @@
 -- What the parts of a command come to is the outcome of the command.
-use Rattle.std.proofs.Common.{◌≡◌, ◌≤◌, ℕ, inl, inr, ⊎_elim, true, false, List, [], length, refl, sym, subst, arith}
+use Rattle.std.proofs.Common.{◌≡◌, ◌∙◌, ℕ, inl, inr, true, false, List, [], length, refl, sym, ap, subst, arith, length-append}
 use Rattle.text_lines.specs.Lines.{lines_of}
-use Rattle.store_model.specs.Disk.{Stays}
 use Rattle.store_model.proofs.Runs.{leaves_stays}
 use Rattle.entry_codec.specs.declared.entries.Entry.{Entry}
-use Rattle.checkpoint.specs.declared.layout.TheConstants.{ROOT_AREA}
-use Rattle.checkpoint.proofs.Formats.{no_root_short}
+use Rattle.gated_log.specs.Blocks.{header}
+use Rattle.gated_log.proofs.Numbers.{length-header}
+use Rattle.checkpoint.specs.declared.layout.TheConstants.{ROOT_AREA, VERSION}
 use Rattle.library_model.specs.declared.calls.Call.{Call}
 use Rattle.input_scripts.specs.declared.Scripts.{Scripts}
 use Rattle.input_reader.specs.Input.{faults_of}
@@ -14,15 +14,15 @@ use Rattle.restart_model.specs.Libraries.{restart_job}
 use Rattle.restart_model.specs.Sources.{descriptions}
 use Rattle.ibmi_batch.specs.declared.status.Status.{Status}
 use Rattle.ibmi_batch.specs.declared.status.Status.TheVariants.{Done, Words, ReadFault, TooLong, Script, NotALibrary, Damaged, StoreFault, WriteFault, NoMemory, JobsEnded, Exists}
-use Rattle.ibmi_batch.specs.Storing.{Storing, IsUntouched, WasEmpty, WasSomething, IsEmpty, SpelledBefore, IsRestart}
-use Rattle.ibmi_batch.specs.Outcome.{Reading, Writing, NothingWritten, IsRead, RunOver, WasRun, IsInOrder, IsOrderly, IsOutcome}
+use Rattle.ibmi_batch.specs.Storing.{Storing, IsUntouched, IsEmpty, SpelledBefore, IsRestart}
+use Rattle.ibmi_batch.specs.Outcome.{Reading, Writing, NothingWritten, IsRead, RunOver, WasRun, IsOrderly, IsOutcome}
 use Rattle.ibmi_batch.specs.Parts.{IsUnread, Makes, IsRefused, Shows, ShownOver, RunsJobs}
 use Rattle.ibmi_batch.specs.Words.{are_command_words, are_display_words, are_format_words, are_job_words, are_open_words}
 
 -- ---- words
 
 pub command-of-open : (words : List (List ℕ)) → are_open_words words ≡ true → are_command_words words ≡ true
-command-of-open words open = rw open refl
+command-of-open words opens = rw opens refl
 
 pub open-of-job : (words : List (List ℕ)) → are_job_words words ≡ true → are_open_words words ≡ true
 open-of-job words job = rw job refl
@@ -47,7 +47,9 @@ module _ (words : List (List ℕ)) (format : are_format_words words ≡ true) (j
 -- a store that spells a journal isn't empty
 pub spelled-is-something : (storing : Storing) (entries : List Entry) → SpelledBefore storing entries → IsEmpty storing → ⊥
 spelled-is-something storing entries spelled empty =
-    no_root_short (storing.old.seen ROOT_AREA) (rw empty (omega arith)) spelled.earlier _ spelled.roots
+    let spells = spelled.roots.spells in
+    let lengths = ap (λ (l : List ℕ). length l) (sym empty ∙ spells.header) in
+    omega (arith, lengths, length-append (header ROOT_AREA 0 VERSION) spells.body, length-header ROOT_AREA 0 VERSION)
 
 -- where nothing is written a stop leaves what it may within a restart
 pub restart-of-untouched : (storing : Storing) → IsUntouched storing → IsRestart storing
@@ -84,7 +86,7 @@ module _ (reading : Reading) (given : List Call → Type 0) (writing : Writing) 
     comes = inr (record {
       command = command-of-open reading.words (open-of-job reading.words words);
       written = nothing;
-      restart = λ open. restart-of-untouched storing untouched;
+      restart = λ opens. restart-of-untouched storing untouched;
       formatting = λ format tells. leaves_stays storing.old storing.new _ untouched (λ areas may. record { before = areas; could = may; roots = inl refl; others = λ area apart away. refl });
     });
     complete = λ reads tells order. tt;
@@ -103,7 +105,7 @@ module _ (reading : Reading) (given : List Call → Type 0) (writing : Writing) 
 module _ (reading : Reading) (given : List Call → Type 0) (writing : Writing) (storing : Storing) (format : are_format_words reading.words ≡ true)
     (job : are_job_words reading.words ≡ false) (display : are_display_words reading.words ≡ false) (nothing : NothingWritten writing) where
   no-open : are_open_words reading.words ≡ true → ⊥
-  no-open open = absurd (let none = no-open-of-format reading.words format job display in cc)
+  no-open opens = absurd (let none = no-open-of-format reading.words format job display in cc)
 
   no-job : are_job_words reading.words ≡ true → ⊥
   no-job runs = absurd cc
@@ -123,7 +125,7 @@ module _ (reading : Reading) (given : List Call → Type 0) (writing : Writing) 
       inr (record {
         command = command-of-format reading.words format job display;
         written = nothing;
-        restart = λ open. absurd (no-open open);
+        restart = λ opens. absurd (no-open opens);
         formatting = λ its. made.1;
       }),
     );
@@ -133,7 +135,7 @@ module _ (reading : Reading) (given : List Call → Type 0) (writing : Writing) 
     comes = inr (record {
       command = command-of-format reading.words format job display;
       written = nothing;
-      restart = λ open. absurd (no-open open);
+      restart = λ opens. absurd (no-open opens);
       formatting = λ its. made;
     });
     complete = λ reads tells order. tt;
@@ -149,32 +151,32 @@ module _ (reading : Reading) (given : List Call → Type 0) (writing : Writing) 
 
 -- ---- a library was not opened
 
-module _ (reading : Reading) (given : List Call → Type 0) (writing : Writing) (storing : Storing) (open : are_open_words reading.words ≡ true)
+module _ (reading : Reading) (given : List Call → Type 0) (writing : Writing) (storing : Storing) (opens : are_open_words reading.words ≡ true)
     (no-format : are_format_words reading.words ≡ true → ⊥) (input : are_job_words reading.words ≡ true → reading.tells → faults_of (lines_of reading.input) ≡ []) where
   pub outcome-refused : (status : Status) → IsRefused status writing storing → IsOutcome status reading given writing storing
   outcome-refused NotALibrary refused = record {
-    comes = record { command = open; input = input; written = refused.0; stored = refused.1; why = refused.2 };
-    complete = λ reads tells order. let its = order.journal open in spelled-is-something storing its.0 its.1 (refused.2 tells);
+    comes = record { command = opens; input = input; written = refused.0; stored = refused.1.0; why = refused.1.1 };
+    complete = λ reads tells order. let its = order.journal opens in spelled-is-something storing its.0 its.1 (refused.1.1 tells);
   }
   outcome-refused (Damaged area at) refused = record {
-    comes = record { command = open; input = input; written = refused.0; stored = refused.1; why = (refused.2, refused.3) };
-    complete = λ reads tells order. let its = order.journal open in refused.3 tells its.0 its.1;
+    comes = record { command = opens; input = input; written = refused.0; stored = refused.1.0; why = (refused.1.1, refused.1.2) };
+    complete = λ reads tells order. let its = order.journal opens in refused.1.2 tells its.0 its.1;
   }
   outcome-refused StoreFault refused = record {
     comes = (
-      refused.1,
+      refused.1.0,
       inr (record {
-        command = command-of-open reading.words open;
+        command = command-of-open reading.words opens;
         written = refused.0;
-        restart = λ its. refused.2;
+        restart = λ its. refused.1.1;
         formatting = λ format. absurd (no-format format);
       }),
     );
-    complete = λ reads tells order. refused.1;
+    complete = λ reads tells order. refused.1.0;
   }
   outcome-refused NoMemory refused = record {
     comes = inr (record {
-      command = command-of-open reading.words open;
+      command = command-of-open reading.words opens;
       written = refused.0;
       restart = λ its. refused.1;
       formatting = λ format. absurd (no-format format);

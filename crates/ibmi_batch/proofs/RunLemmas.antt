@@ -1,12 +1,9 @@
 -- What a library that was opened, and a session that ran over it, come to together.
-use Rattle.std.proofs.Common.{◌≡◌, ◌≤◌, ◌∙◌, ℕ, inl, inr, true, false, List, [], length, take, refl, sym, ap, subst, arith}
+use Rattle.std.proofs.Common.{◌≡◌, ◌∙◌, ◌++◌, ℕ, inl, inr, true, false, List, [], length, refl, sym, ap, subst, arith}
 use Rattle.std.proofs.lemmas.List.{take_all}
-use Rattle.store_model.specs.Disk.{Areas, Disk, Leaves, May}
+use Rattle.store_model.specs.Disk.{Disk, Leaves}
 use Rattle.store_model.specs.Faults.{Rose}
 use Rattle.store_model.proofs.Runs.{leaves_less, leaves_then}
-use Rattle.entry_codec.specs.declared.entries.Entry.{Entry}
-use Rattle.receiver_chain.specs.declared.numbers.TheConstants.{FIRST_RECEIVER}
-use Rattle.journal_book.specs.Kept.{SpellEntries}
 use Rattle.journal_opening.specs.declared.fault.OpenFault.{OpenFault}
 use Rattle.journal_opening.specs.declared.fault.OpenFault.TheVariants as fault
 use Rattle.library_model.specs.declared.calls.Call.{Call}
@@ -15,9 +12,10 @@ use Rattle.library_steps.specs.History.{Outcome, Standing, Failed}
 use Rattle.library_core.specs.Fronts.{IsFront}
 use Rattle.library_core.specs.Parts.{LibraryOver}
 use Rattle.library_core.specs.Stands.{IsAt}
+use Rattle.input_scripts.specs.declared.Schedule.{Schedule}
+use Rattle.input_scripts.specs.declared.Schedule.TheVariants.{Jobs, RoundRobin}
 use Rattle.input_scripts.specs.declared.Scripts.{Scripts}
 use Rattle.job_runner.specs.Asked.{AreAsked}
-use Rattle.job_runner.specs.Ended.{has_ended}
 use Rattle.job_runner.specs.Made.{AreGiven}
 use Rattle.job_runner.specs.Moments.{HasRun as HasRunOver, StandsForced}
 use Rattle.job_runner.specs.Places.{BeginsJobs}
@@ -29,9 +27,10 @@ use Rattle.restart_model.specs.Libraries.{restart_job}
 use Rattle.restart_model.specs.Sources.{descriptions}
 use Rattle.restarted_journal.specs.Restarts.{MayRestart}
 use Rattle.ibmi_batch.specs.declared.status.Status.{Status}
+use Rattle.ibmi_batch.specs.declared.status.Status.TheVariants.{StoreFault}
 use Rattle.ibmi_batch.specs.Opening.{status_of}
-use Rattle.ibmi_batch.specs.Outcome.{HasRun, HaveEnded, IsCutShort, IsStanding, RunOver, Writing}
-use Rattle.ibmi_batch.specs.Parts.{IsUnopened, SessionRan}
+use Rattle.ibmi_batch.specs.Outcome.{HasRun, IsCutShort, IsStanding, RunOver, Writing}
+use Rattle.ibmi_batch.specs.Parts.{IsUnopened, RunsJobs, SessionRan}
 use Rattle.ibmi_batch.specs.Storing.{MayRun}
 use Rattle.ibmi_batch.specs.Words.{are_serial_words}
 
@@ -45,6 +44,11 @@ unopened fault.NoMemory tells old new is = is
 
 -- ---- what a session came to
 
+-- no calls are in turn by any schedule
+pub in-turn-none : (jobs : ℕ) (schedule : Schedule) (before : List Call) → AreInTurn jobs schedule before []
+in-turn-none jobs (Jobs turns) before = tt
+in-turn-none jobs RoundRobin before = tt
+
 -- an outcome of a library that hasn't failed stands
 pub stands-alive : {S : Type 0} (library : LibraryOver S) (outcome : Outcome) → IsAt library outcome → library.failed ≡ false → IsStanding outcome
 stands-alive library (Standing s) at alive = (s, refl)
@@ -54,6 +58,14 @@ stands-alive library (Failed entries) at alive = absurd cc
 pub cut-failed : {S : Type 0} (library : LibraryOver S) (outcome : Outcome) → IsAt library outcome → library.failed ≡ true → IsCutShort outcome
 cut-failed library (Standing s) at failed = absurd (let alive = at.alive in cc)
 cut-failed library (Failed entries) at failed = (entries, refl)
+
+-- where it fails behind them the store's count of faults rose
+pub session-rose : {S C : Type 0} (tells : Type 0) (disk : S → Disk) (gives : C → ℕ → C → Type 0) (first later : SessionOver S C) (made : List Call)
+    → HasMade tells disk gives first later made → first.library.failed ≡ false → later.library.failed ≡ true → Rose (disk first.library.store).faults (disk later.library.store).faults
+session-rose tells disk gives first later made has alive failed = elim (has.cause failed) [
+  | inl before ↦ absurd cc
+  | inr rose ↦ rose
+]
 
 module _ {S C : Type 0} (tells : Type 0) (disk : S → Disk) (gives : C → ℕ → C → Type 0) (words : List (List ℕ)) (first later : SessionOver S C) (made : List Call) (from : State)
     (none : first.calls ≡ []) (forced : StandsForced tells disk first.library from) (has : HasMade tells disk gives first later made)
@@ -68,18 +80,13 @@ module _ {S C : Type 0} (tells : Type 0) (disk : S → Disk) (gives : C → ℕ 
   session-outcome = led.outcome
 
   pub session-at : IsAt later.library session-outcome
+  unfolding session-outcome led
   session-at = led.at
-
-  -- where it fails behind them the store's count of faults rose
-  pub session-rose : first.library.failed ≡ false → later.library.failed ≡ true → Rose (disk first.library.store).faults (disk later.library.store).faults
-  session-rose alive failed = elim (has.cause failed) [
-    | inl before ↦ absurd cc
-    | inr rose ↦ rose
-  ]
 
   -- with what was written
   pub session-ran : (status : Status) (writing : Writing) → HasRun status later.scripts later.calls session-outcome writing
       → SessionRan tells (disk first.library.store) (disk later.library.store) status words first.scripts from (AreGiven gives first.clock later.clock) writing
+  unfolding session-outcome led
   session-ran status writing ran = record {
     calls = made;
     outcome = led.outcome;
@@ -137,3 +144,23 @@ module _ {S : Type 0} (tells : Type 0) (disk : S → Disk) (old : Disk) (library
 
     pub rose-run : Rose (disk begun-library.store).faults last.faults → Rose old.faults last.faults
     rose-run rose = let same = ap (λ (store : S). (disk store).faults) begins.store in let upto = opened.faults in omega (arith, rose, same, upto)
+
+    -- a session over it, which began with these jobs, has run
+    pub runs-over : {C : Type 0} (gives : C → ℕ → C → Type 0) (session : SessionOver S C) (clock later : C) (status : Status) (words : List (List ℕ)) (writing : Writing)
+        → session.library ≡ begun-library → session.scripts ≡ scripts → session.clock ≡ clock
+        → ((from : State) → StandsForced tells disk session.library from
+          → SessionRan tells (disk session.library.store) last status words session.scripts from (AreGiven gives session.clock later) writing)
+        → (status ≡ StoreFault → session.library.failed ≡ false → Rose (disk session.library.store).faults last.faults)
+        → RunsJobs status words scripts (AreGiven gives clock later) writing (record { tells = tells; old = old; new = last })
+    runs-over {C = C} gives session clock later status words writing over says at ran cause =
+        let forced = StandsForced-begun tells disk library begun-library scripts.names library.state opened-forced begins in
+        let done = ran (begun library.state scripts.names) (subst (λ (it : LibraryOver S). StandsForced tells disk it (begun library.state scripts.names)) (sym over) forced) in
+        inl (
+          over-run status words (AreGiven gives clock later) writing
+          (subst (λ (it : LibraryOver S). SessionRan tells (disk it.store) last status words scripts (begun library.state scripts.names) (AreGiven gives clock later) writing) over
+          (subst (λ (it : Scripts). SessionRan tells (disk session.library.store) last status words it (begun library.state scripts.names) (AreGiven gives clock later) writing) says
+          (subst (λ (it : C). SessionRan tells (disk session.library.store) last status words session.scripts (begun library.state scripts.names) (AreGiven gives it later) writing) at done))),
+          λ fault.
+              rose-run (subst (λ (it : LibraryOver S). Rose (disk it.store).faults last.faults) over
+              (cause fault (ap (λ (it : LibraryOver S). it.failed) over ∙ begins.failed ∙ opened.alive))),
+        )

@@ -1,6 +1,6 @@
 -- What does a command make of the store that keeps the library, and what does a stop leave of it meanwhile? (Journal Management, "Recovery operations using
 -- journaling". What a stop may leave of a disk is our own.)
-use Rattle.std.specs.Prelude.{◌≡◌, ◌⊎◌, ℕ, List, [], ◌∷◌}
+use Rattle.std.specs.Prelude.{◌≡◌, ◌⊎◌, List, []}
 use Rattle.store_model.specs.Disk.{Areas, Disk, Leaves, May, Stays}
 use Rattle.store_model.specs.Faults.{Rose}
 use Rattle.entry_codec.specs.declared.entries.Entry.{Entry}

@@ -1,4 +1,5 @@
 //! The status at which a library was not opened.
+ghost use Rattle.std.specs.Prelude.{◌≡◌};
 ghost use Rattle.ibmi_batch.specs.Opening.{status_of};
 
 use crate::status::Status;

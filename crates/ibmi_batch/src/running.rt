@@ -1,5 +1,5 @@
 //! Jobs run over the library that a store keeps, and their listing is written.
-ghost use Rattle.std.specs.Prelude.{◌≡◌, ◌≤◌, [], ℕ, true, IsTrue, IfOk, IsErrOf, OnOk, List, length, map, string_bytes};
+ghost use Rattle.std.specs.Prelude.{◌≡◌, ◌≤◌, [], ℕ, true, false, IsTrue, IfOk, IsErrOf, OnOk, List, length, map, string_bytes};
 ghost use Rattle.store_model.specs.Faults.{Rose};
 ghost use Rattle.input_scripts.specs.Schedules.{NamesJobs};
 ghost use Rattle.job_runner.specs.Ended.{has_ended, has_early_end, ends_early};

@@ -1,5 +1,5 @@
 -- A library that is built of a restarted journal's entries stands over that journal.
-use Rattle.std.proofs.Common.{◌≡◌, ◌≤◌, ◌<◌, ◌+◌, ◌∙◌, ℕ, true, false, List, [], length, take, refl, sym, ap, subst, arith}
+use Rattle.std.proofs.Common.{◌≡◌, ◌≤◌, ◌<◌, ◌+◌, ◌∙◌, ℕ, Result, IfOk, List, [], length, take, sym, ap, subst, arith}
 use Rattle.std.proofs.lemmas.List.{take_all}
 use Rattle.store_model.specs.Disk.{Areas, Disk, May}
 use Rattle.entry_codec.specs.declared.entries.Entry.{Entry}
@@ -17,6 +17,18 @@ use Rattle.library_core.specs.Journaled.{IsJournaled, MayDeposit}
 use Rattle.library_core.specs.Parts.{LibraryOver}
 use Rattle.library_core.specs.Stands.{Stands}
 use Rattle.opened_library.specs.Opened.{IsBuilt}
+
+-- ---- what the entries leave
+
+pub entries-left : (s : State) (attached : ℕ) (entries : List Entry) → s ≡ library_left (λ _. 0) attached (journal_with entries) → s.entries ≡ entries
+entries-left s attached entries left = ap (λ (t : State). t.entries) left
+
+-- the same said of the state's own entries and of the book's receiver
+pub left-at : (s : State) (receiver attached : ℕ) (entries : List Entry) → attached ≡ receiver → s ≡ library_left (λ _. 0) attached (journal_with entries)
+    → s ≡ library_left (λ _. 0) receiver (journal_with s.entries)
+left-at s receiver attached entries same left =
+    subst (λ (all : List Entry). s ≡ library_left (λ _. 0) receiver (journal_with all)) (sym (entries-left s attached entries left))
+    (subst (λ (n : ℕ). s ≡ library_left (λ _. 0) n (journal_with entries)) same left)
 
 module _ (s : State) (attached : ℕ) (left : s ≡ library_left (λ _. 0) attached (journal_with s.entries)) where
   pub none-begun : s.jobs ≡ []
@@ -62,3 +74,8 @@ is-built tells disk library book s attached left few same nothing receiver stand
           subst (λ (entries : List Entry). SpellEntries FIRST_RECEIVER entries areas) (take_all library.book.forced library.state.entries (omega (arith, forced)))
           (subst (λ (receiver : ℕ). SpellEntries receiver (take library.book.forced library.state.entries) areas) chain (spells told areas may));
     }
+
+-- what was built of the state's entries was built of those that they are
+pub built-of : {S E : Type 0} (tells : Type 0) (disk : Disk) (entries others : List Entry) (r : Result (LibraryOver S) E) → entries ≡ others
+    → IfOk r (λ library. IsBuilt tells disk entries library) → IfOk r (λ library. IsBuilt tells disk others library)
+built-of {S = S} tells disk entries others r same built = subst (λ (all : List Entry). IfOk r (λ (library : LibraryOver S). IsBuilt tells disk all library)) same built

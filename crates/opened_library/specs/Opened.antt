@@ -32,7 +32,7 @@ pub record IsOpenedFrom (tells : Type 0) (old : Disk) (before : List Entry) (s :
 abbrev pub Restarts : (tells : Type 0) (old new : Disk) → Type 0
 Restarts tells old new = tells → (before : List Entry) → SpellJournal descriptions before old.seen → Leaves old new (MayRestart descriptions old restart_job 0 before)
 
--- a library that was opened: its state, which is sound, and all of its journal is on the disk
+-- a library that was opened: its state, which is sound, and all of its journal is on the disk, where a stop leaves it with its roots
 pub record IsOpenedLibrary {S : Type 0} (tells : Type 0) (old new : Disk) (library : LibraryOver S) : Type 0 where
   pub before : List Entry
   pub from : IsOpenedFrom tells old before library.state
@@ -43,6 +43,7 @@ pub record IsOpenedLibrary {S : Type 0} (tells : Type 0) (old new : Disk) (libra
   pub all : library.book.forced ≡ length library.state.entries
   pub receiver : library.book.chain.first ≡ FIRST_RECEIVER
   pub left : tells → (areas : Areas) → May new areas → SpellEntries FIRST_RECEIVER library.state.entries areas
+  pub durable : tells → (areas : Areas) → May new areas → SpellJournal descriptions library.state.entries areas
   pub faults : old.faults ≤ new.faults
 
 -- why a store was not opened: none of its areas was written where its bytes are the cause

@@ -1,5 +1,5 @@
 //! The library of a journal that was restarted.
-ghost use Rattle.std.specs.Prelude.{◌≡◌, ◌×◌, ◌<◌, true, length, IfOk, IfErr};
+ghost use Rattle.std.specs.Prelude.{◌≡◌, ◌<◌, true, length, IfOk, IfErr};
 ghost use Rattle.receiver_chain.specs.declared.numbers.TheConstants.{FIRST_RECEIVER};
 ghost use Rattle.receiver_chain.specs.Chain.{attached_of};
 ghost use Rattle.journal_book.specs.Book.{Holds, last_of};
@@ -58,7 +58,10 @@ fn begin_library<S: Store>(
     ensures store { IfOk result (λ library. library.store ≡ store) }
     ensures refused { IfErr result (λ refused. (refused.0 ≡ OpenFault.NoMemory) × (refused.1 ≡ store)) }
 {
-    if !stands_behind(&journal, count) || !may_deposit(&contents) {
+    if !stands_behind(&journal, count) {
+        return Err((OpenFault::NoMemory, store));
+    }
+    if !may_deposit(&contents) {
         return Err((OpenFault::NoMemory, store));
     }
     // The members are within the bytes that a library may have.

@@ -1,12 +1,15 @@
 //! What the calls of a library rest on, looked for in one that was restarted.
-ghost use Rattle.std.specs.Prelude.{◌≡◌, [], true};
+ghost use Rattle.std.specs.Prelude.{◌≡◌, ◌≤◌, [], true};
 ghost use Rattle.std.specs.List.{AllByRecursion};
+ghost use Rattle.library_steps.specs.declared.limits.TheConstants.{LAST_SEQUENCE};
+ghost use Rattle.library_steps.specs.State.{memory_of};
 ghost use Rattle.deposited_entries.specs.Counted.{HasBytes};
 ghost use Rattle.library_core.specs.Journaled.{MayDeposit};
 
 use file_catalogue::{Catalogue, File};
 use library_parts::Contents;
 use library_steps::limits::LAST_SEQUENCE;
+use member_slots::members::Members;
 
 /// Whether members are counted from 1, records have bytes, and sequences are left, as in any library that was kept.
 pub(crate) fn may_deposit(contents: &Contents) -> bool
@@ -14,12 +17,33 @@ pub(crate) fn may_deposit(contents: &Contents) -> bool
     requires unsaved { contents.now.state.checkpoint ≡ 0 }
     ensures { result ≡ true → MayDeposit contents.now.state }
 {
+    if !has_numbers(contents) {
+        return false;
+    }
+    if !are_counted(contents.members()) {
+        return false;
+    }
+    have_bytes(contents.catalogue())
+}
+
+/// Whether the next member's number isn't 0, and sequences are left.
+fn has_numbers(contents: &Contents) -> bool
+    ensures next { result ≡ true → 1 ≤ contents.now.state.next_member }
+    ensures last { result ≡ true → (memory_of contents.now.state).last_entry ≤ LAST_SEQUENCE }
+{
     let (_, next) = contents.counts();
     let (_, last) = contents.bounds();
-    1 <= next
-        && last <= LAST_SEQUENCE
-        && contents.members().at(0).is_none()
-        && have_bytes(contents.catalogue())
+    1 <= next && last <= LAST_SEQUENCE
+}
+
+/// Whether no member has the number 0.
+fn are_counted(members: &Members) -> bool
+    ensures { result ≡ true → AllByRecursion (λ entry. 1 ≤ entry.number) members.now.members }
+{
+    match members.at(0) {
+        Some(_) => false,
+        None => true,
+    }
 }
 
 /// Whether each physical file's records have a byte.

@@ -1,6 +1,7 @@
-use Rattle.std.proofs.Common.{◌≡◌, ◌∙◌, ◌++◌, sym, ap, subst, map, List}
+use Rattle.std.proofs.Common.{◌≡◌, ◌∙◌, ◌++◌, ℕ, sym, ap, subst, map, List}
 use Rattle.library_steps.specs.State.{State, JobState, begun, new_job}
 use Rattle.joint_state.specs.Sound.{IsSound}
+use Rattle.job_runner.specs.Places.{BeginsJobs}
 use Rattle.job_runner.proofs.PlaceLemmas.{IsSession-first, on_no_err}
 use Rattle.job_runner.proofs.session.Session.new.Goals as goal
 
@@ -15,3 +16,8 @@ invariant_of-result g c =
     rw (c.reserve.ensures.unchanged, c.new-history.ensures)
     (IsSession-first c.args.scripts c.begin_jobs.new.library.state c.reserve.new.self.room _ sound c.requires.answered c.requires.short jobs c.requires.askable c.requires.named c.requires.few enough
     (rw c.as_slice-2.ensures at c.in-Ok.ensures))
+
+pub returns-in-Ok-clause-begun : goal.returns-in-Ok-clause-begun
+returns-in-Ok-clause-begun g c =
+    let begun_jobs = on_no_err c.begin_jobs.result (sym c.is_err.ensures.value ∙ c.if-is_err.false) c.begin_jobs.ensures.begun in
+    subst (λ (names : List (List ℕ)). BeginsJobs c.args.library c.begin_jobs.new.library names) c.as_slice.ensures begun_jobs
