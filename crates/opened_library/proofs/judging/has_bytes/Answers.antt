@@ -1,4 +1,4 @@
-use Rattle.std.proofs.Common.{◌≤◌, ◌∙◌, sym, ap, arith, leb-true}
+use Rattle.std.proofs.Common.{◌∙◌, sym, ap, arith, leb-true}
 use Rattle.std.specs.Prelude.{option_copied}
 use Rattle.opened_library.proofs.JudgedLemmas.{wide-format, wide-none}
 use Rattle.opened_library.proofs.judging.has_bytes.Goals as goal
