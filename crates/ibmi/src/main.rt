@@ -59,6 +59,7 @@ fn main(rt: HostRuntime) -> ExitCode {
 }
 
 /// What a run came to.
+#[derive(Clone, Copy)]
 struct Ended {
     status: Status,
     /// Another process has the folder.
