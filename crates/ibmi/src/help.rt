@@ -2,7 +2,7 @@
 use crate::kept::Kept;
 use hints::{
     FolderTrouble, HelpText, folder_help, jobs_help, line_help, script_help, terminal_help,
-    words_help,
+    unjournaled_help, words_help,
 };
 use ibmi_batch::status::Status;
 use std::alloc::{AllocError, Global};
