@@ -43,7 +43,23 @@ fn main(rt: HostRuntime) -> ExitCode {
     let mut input = KeptSource::new(rt.alloc(), StandardInput::new(reader));
     let mut output = KeptSink::new(rt.alloc(), StandardOutput::new(io::writer(&rt)));
     let clock = SystemClock::new(clock);
-    let ended = run_over(&rt, files, words.as_slice(), &mut input, &mut output, clock);
+    let ended = match folder_in(words.as_slice()) {
+        Some(folder) => match open_store(files, folder) {
+            Ok(store) => Ended::by(run(
+                &rt,
+                words.as_slice(),
+                store,
+                &mut input,
+                &mut output,
+                clock,
+            )),
+            Err(ended) => ended,
+        },
+        None => {
+            let store = MemoryStore::new(rt.alloc());
+            Ended::by(run(&rt, words.as_slice(), store, &mut input, &mut output, clock))
+        }
+    };
     let code = end(&rt, ended.status);
     if ended.in_use {
         say_in_use(&rt, words.as_slice());
@@ -66,38 +82,35 @@ struct Ended {
     in_use: bool,
 }
 
-/// Does what the words say, over the folder that they name. Words that are no command touch no folder.
-fn run_over<
-    R: AllocGlobal + Eprint + Threads + Wait + Sync,
-    F: Files<File = File> + AllocGlobal + Drop + Send,
-    I: Source,
-    O: Sink,
-    C: Clock + Send + Drop,
->(rt: &R, files: F, words: &[String], input: &mut I, output: &mut O, clock: C) -> Ended {
-    let alloc = rt.alloc();
-    let folder = match words {
-        [_, folder] if are_command_words(words) => folder,
-        _ => {
-            let status = run(rt, words, MemoryStore::new(alloc), input, output, clock);
-            return Ended {
-                status,
-                in_use: false,
-            };
-        }
-    };
-    match FolderStore::open(files, folder.as_str()) {
-        Ok(store) => Ended {
-            status: run(rt, words, store, input, output, clock),
+impl Ended {
+    fn by(status: Status) -> Ended {
+        Ended {
+            status,
             in_use: false,
-        },
-        Err(OpenError::InUse) => Ended {
+        }
+    }
+}
+
+/// The folder that the words name, where they are a command. Other words touch none.
+fn folder_in(words: &[String]) -> Option<&str> {
+    match words {
+        [_, folder] if are_command_words(words) => Some(folder.as_str()),
+        _ => None,
+    }
+}
+
+/// The store over a folder, or what a run comes to whose folder can't be opened.
+fn open_store<F: Files<File = File> + AllocGlobal + Drop>(
+    files: F,
+    folder: &str,
+) -> Result<FolderStore<F>, Ended> {
+    match FolderStore::open(files, folder) {
+        Ok(store) => Ok(store),
+        Err(OpenError::InUse) => Err(Ended {
             status: Status::StoreFault,
             in_use: true,
-        },
-        Err(OpenError::Refused(error)) => Ended {
-            status: without_folder(&error),
-            in_use: false,
-        },
+        }),
+        Err(OpenError::Refused(error)) => Err(Ended::by(without_folder(&error))),
     }
 }
 
