@@ -149,7 +149,7 @@ module _ {S : Type 0} (tells : Type 0) (disk : S → Disk) (old : Disk) (library
     pub runs-over : {C : Type 0} (gives : C → ℕ → C → Type 0) (session : SessionOver S C) (clock later : C) (status : Status) (words : List (List ℕ)) (writing : Writing)
         → session.library ≡ begun-library → session.scripts ≡ scripts → session.clock ≡ clock
         → ((from : State) → StandsForced tells disk session.library from
-          → SessionRan tells (disk session.library.store) last status words session.scripts from (AreGiven gives session.clock later) writing)
+        → SessionRan tells (disk session.library.store) last status words session.scripts from (AreGiven gives session.clock later) writing)
         → (status ≡ StoreFault → session.library.failed ≡ false → Rose (disk session.library.store).faults last.faults)
         → RunsJobs status words scripts (AreGiven gives clock later) writing (record { tells = tells; old = old; new = last })
     runs-over {C = C} gives session clock later status words writing over says at ran cause =
@@ -157,9 +157,9 @@ module _ {S : Type 0} (tells : Type 0) (disk : S → Disk) (old : Disk) (library
         let done = ran (begun library.state scripts.names) (subst (λ (it : LibraryOver S). StandsForced tells disk it (begun library.state scripts.names)) (sym over) forced) in
         inl (
           over-run status words (AreGiven gives clock later) writing
-          (subst (λ (it : LibraryOver S). SessionRan tells (disk it.store) last status words scripts (begun library.state scripts.names) (AreGiven gives clock later) writing) over
-          (subst (λ (it : Scripts). SessionRan tells (disk session.library.store) last status words it (begun library.state scripts.names) (AreGiven gives clock later) writing) says
-          (subst (λ (it : C). SessionRan tells (disk session.library.store) last status words session.scripts (begun library.state scripts.names) (AreGiven gives it later) writing) at done))),
+              (subst (λ (it : LibraryOver S). SessionRan tells (disk it.store) last status words scripts (begun library.state scripts.names) (AreGiven gives clock later) writing) over
+              (subst (λ (it : Scripts). SessionRan tells (disk session.library.store) last status words it (begun library.state scripts.names) (AreGiven gives clock later) writing) says
+              (subst (λ (it : C). SessionRan tells (disk session.library.store) last status words session.scripts (begun library.state scripts.names) (AreGiven gives it later) writing) at done))),
           λ fault.
               rose-run (subst (λ (it : LibraryOver S). Rose (disk it.store).faults last.faults) over
               (cause fault (ap (λ (it : LibraryOver S). it.failed) over ∙ begins.failed ∙ opened.alive))),
