@@ -100,7 +100,7 @@ const HARMLESS: &[(u32, Harm, &str)] = &[
 ];
 
 /// Does this to an area that is long enough for it.
-fn harm(store: &mut MemoryStore, area: u32, harm: Harm) -> Result<(), Failed> {
+fn make_harm(store: &mut MemoryStore, area: u32, harm: Harm) -> Result<(), Failed> {
     let size = store.size(area)?;
     match harm {
         Harm::Cut(length) => {
@@ -158,7 +158,7 @@ fn damages_are_found<R: Threads + Wait + Sync + Abort>(
     for &(harms, place) in rows {
         let mut store = ran(rt, alloc, input)?;
         for &(area, done) in harms {
-            harm(&mut store, area, done)?;
+            make_harm(&mut store, area, done)?;
         }
         damage_is_found(rt, alloc, store, place)?;
     }
@@ -182,7 +182,7 @@ fn harmless_are_shown<R: Threads + Wait + Sync + Abort>(
 ) -> Result<(), Fail> {
     for &(area, done, text) in rows {
         let mut store = ran(rt, alloc, FIRST)?;
-        harm(&mut store, area, done)?;
+        make_harm(&mut store, area, done)?;
         let shown = run(rt, alloc, store, "DSP", "")?;
         assert_eq!(rt; shown.status, 0);
         assert_eq!(rt; shown.text(), text);
@@ -198,7 +198,7 @@ fn what_does_not_count_is_passed_over(rt: HostRuntime) -> Result<(), Fail> {
 #[test]
 fn a_store_without_roots_is_no_library(rt: HostRuntime) -> Result<(), Fail> {
     let mut store = ran(&rt, rt.alloc(), FIRST)?;
-    harm(&mut store, 0, Harm::Cut(0))?;
+    make_harm(&mut store, 0, Harm::Cut(0))?;
     for (command, input) in [("RUN", FIRST), ("SERIAL", FIRST), ("DSP", "")] {
         let done = run(&rt, rt.alloc(), store, command, input)?;
         assert_eq!(&rt; done.status, 5, "{command}");

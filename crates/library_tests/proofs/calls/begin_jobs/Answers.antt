@@ -44,6 +44,6 @@ returns-clause-second c =
     let state = c.in-Ok-begin_job.ensures.begun ∙ ap (one_more name) c.in-Ok.ensures.begun in
     let one = c.in-Ok.ensures.begun in
     let number : c.in-Ok-begin_job.second ≡ 2 =
-        c.in-Ok-begin_job.ensures.number ∙ ap (λ (s : State). length s.jobs + 1) one ∙ ap (λ (jobs : List JobState). length (jobs ++ new_job name ∷ []) + 1) none in
+    c.in-Ok-begin_job.ensures.number ∙ ap (λ (s : State). length s.jobs + 1) one ∙ ap (λ (jobs : List JobState). length (jobs ++ new_job name ∷ []) + 1) none in
     ready name c.args.library.state _ c.in-Ok-begin_job.second 2 none (c.in-Ok-begin_job.ensures.failed ∙ c.in-Ok.ensures.failed ∙ c.requires.alive) state
     (c.jobs_begin_in_a_sound_library.ensures _ (name ∷ name ∷ []) c.requires.sound none) number refl
