@@ -134,19 +134,30 @@ fn damage_is_found<R: Threads + Wait + Sync + Abort>(
     store: MemoryStore,
     place: (u32, u64),
 ) -> Result<(), AllocError> {
-    let (area, at) = place;
-    let mut store = store;
-    for (command, input) in [("INZ", ""), ("RUN", FIRST), ("SERIAL", FIRST), ("DSP", "")] {
-        let done = run(rt, alloc, store, command, input)?;
-        let status = if command == "INZ" { 11 } else { 6 };
-        assert_eq!(rt; done.status, status, "{command}, area {area} at {at}");
-        if status == 6 {
-            assert_eq!(rt; done.damage, Some(place), "{command}, area {area} at {at}");
-        }
-        assert_eq!(rt; done.text(), "");
-        store = done.store;
-    }
+    let done = run(rt, alloc, store, "INZ", "")?;
+    assert_eq!(rt; done.status, 11);
+    assert_eq!(rt; done.text(), "");
+    let store = damage_is_named(rt, alloc, done.store, ("RUN", FIRST), place)?;
+    let store = damage_is_named(rt, alloc, store, ("SERIAL", FIRST), place)?;
+    damage_is_named(rt, alloc, store, ("DSP", ""), place)?;
     Ok(())
+}
+
+/// The command names the place; the store as it leaves it.
+fn damage_is_named<R: Threads + Wait + Sync + Abort>(
+    rt: &R,
+    alloc: Global,
+    store: MemoryStore,
+    asked: (&str, &str),
+    place: (u32, u64),
+) -> Result<MemoryStore, AllocError> {
+    let (command, input) = asked;
+    let (area, at) = place;
+    let done = run(rt, alloc, store, command, input)?;
+    assert_eq!(rt; done.status, 6, "{command}, area {area} at {at}");
+    assert_eq!(rt; done.damage, Some(place), "{command}, area {area} at {at}");
+    assert_eq!(rt; done.text(), "");
+    Ok(done.store)
 }
 
 fn damages_are_found<R: Threads + Wait + Sync + Abort>(
