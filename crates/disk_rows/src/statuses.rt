@@ -135,14 +135,14 @@ fn damage_is_found<R: Threads + Wait + Sync + Abort>(
     place: (u32, u64),
 ) -> Result<(), AllocError> {
     let (area, at) = place;
-    let mut store = store;
-    for (command, input) in [("INZ", ""), ("RUN", FIRST), ("SERIAL", FIRST), ("DSP", "")] {
+    let unmade = run(rt, alloc, store, "INZ", "")?;
+    assert_eq!(rt; unmade.status, 11, "area {area} at {at}");
+    assert_eq!(rt; unmade.text(), "");
+    let mut store = unmade.store;
+    for (command, input) in [("RUN", FIRST), ("SERIAL", FIRST), ("DSP", "")] {
         let done = run(rt, alloc, store, command, input)?;
-        let status = if command == "INZ" { 11 } else { 6 };
-        assert_eq!(rt; done.status, status, "{command}, area {area} at {at}");
-        if status == 6 {
-            assert_eq!(rt; done.damage, Some(place), "{command}, area {area} at {at}");
-        }
+        assert_eq!(rt; done.status, 6, "{command}, area {area} at {at}");
+        assert_eq!(rt; done.damage, Some(place), "area {area} at {at}");
         assert_eq!(rt; done.text(), "");
         store = done.store;
     }

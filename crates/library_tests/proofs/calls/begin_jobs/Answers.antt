@@ -34,7 +34,7 @@ returns-clause-first c =
     let none = c.requires.none in
     let state = c.in-Ok-begin_job.ensures.begun ∙ ap (one_more name) c.in-Ok.ensures.begun in
     let number : c.in-Ok.first ≡ 1 = c.in-Ok.ensures.number ∙ ap (λ (jobs : List JobState). length jobs + 1) none in
-    ready name c.args.library.state _ c.in-Ok.first 1 none (c.in-Ok-begin_job.ensures.failed ∙ c.in-Ok.ensures.failed ∙ c.requires.alive) state
+    ready name c.args.library.now.state _ c.in-Ok.first 1 none (c.in-Ok-begin_job.ensures.failed ∙ c.in-Ok.ensures.failed ∙ c.requires.alive) state
     (c.jobs_begin_in_a_sound_library.ensures _ (name ∷ name ∷ []) c.requires.sound none) number refl
 
 pub returns-clause-second : goal.returns-clause-second
@@ -45,5 +45,5 @@ returns-clause-second c =
     let one = c.in-Ok.ensures.begun in
     let number : c.in-Ok-begin_job.second ≡ 2 =
     c.in-Ok-begin_job.ensures.number ∙ ap (λ (s : State). length s.jobs + 1) one ∙ ap (λ (jobs : List JobState). length (jobs ++ new_job name ∷ []) + 1) none in
-    ready name c.args.library.state _ c.in-Ok-begin_job.second 2 none (c.in-Ok-begin_job.ensures.failed ∙ c.in-Ok.ensures.failed ∙ c.requires.alive) state
+    ready name c.args.library.now.state _ c.in-Ok-begin_job.second 2 none (c.in-Ok-begin_job.ensures.failed ∙ c.in-Ok.ensures.failed ∙ c.requires.alive) state
     (c.jobs_begin_in_a_sound_library.ensures _ (name ∷ name ∷ []) c.requires.sound none) number refl
