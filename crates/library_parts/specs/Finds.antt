@@ -11,11 +11,9 @@ use Rattle.library_model.specs.Named.{Named, named}
 use Rattle.library_model.specs.declared.replies.Reply.{Reply}
 use Rattle.library_steps.specs.LogicalFiles.{bases_in}
 use Rattle.lawful_states.specs.Owners.{has_number}
-use Rattle.entry_codec.specs.declared.entries.Entry.{Entry}
-use Rattle.library_steps.specs.JournalReads.{are_there, are_kept, entries_between}
-use Rattle.library_steps.specs.State.{State, FileState, OpenState, fields_of, memory_of}
+use Rattle.library_steps.specs.State.{State, FileState, OpenState, fields_of}
 use Rattle.lawful_states.specs.Lawful.{OpenHolds}
-use Rattle.library_steps.specs.Refusals.{◌>>=◌, OpenedFile, FoundMember}
+use Rattle.library_steps.specs.Refusals.{OpenedFile, FoundMember}
 use Rattle.library_parts.specs.declared.stop.Stop.{Stop}
 use Rattle.library_parts.specs.declared.stop.Stop.TheVariants.{NoMemory, Refused}
 use Rattle.library_parts.specs.declared.finds.OpenFound.{OpenFound}
@@ -69,10 +67,3 @@ OpensBy files members file (LogicalFile spec) = base_members (bases_in files) sp
 abbrev pub OpensMembers : Named FileState → List ℕ → Option FileState → Type 0
 OpensMembers files members None = ⊥
 OpensMembers files members (Some file) = OpensBy files members file file.spec
-
--- the entries from the first sequence up to the last, or the refusal
-abbrev pub entries_read : (first last : ℕ) → State → Result (List Entry) Reply
-entries_read first last s = do
-  _ ← are_there first last (memory_of s)
-  _ ← are_kept first (memory_of s)
-  Ok (entries_between first last (memory_of s) s.entries)

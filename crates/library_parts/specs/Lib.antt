@@ -16,6 +16,7 @@ pub mod Locks
 pub mod Rooms
 pub mod Files
 pub mod Filled
+pub mod Remembered
 pub mod Rows
 pub mod Deposits
 pub mod Sizes

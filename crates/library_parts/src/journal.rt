@@ -6,16 +6,11 @@ ghost use Rattle.library_steps.specs.Receivers.{last_in, given_up};
 ghost use Rattle.library_steps.specs.State.{memory_of, with_entries};
 ghost use Rattle.journal_model.specs.Journal.{AreNumbered};
 ghost use Rattle.memory_journal.specs.declared.journal.TheConstants.{LAST_BEFORE_DEPOSIT};
-ghost use Rattle.memory_journal.specs.Journal.{fault_reply};
-ghost use Rattle.library_parts.specs.declared.stop.Stop.TheVariants.{Refused};
-ghost use Rattle.library_parts.specs.Answers.{Shows};
-ghost use Rattle.library_parts.specs.Finds.{entries_read};
+ghost use Rattle.memory_journal.specs.Blanks.{in_memory};
+ghost use Rattle.library_parts.specs.Remembered.{remembered};
 
 use crate::contents::Contents;
-use crate::stop::Stop;
 use entry_codec::{Draft, Entry};
-use library_model::replies::Reply;
-use memory_journal::JournalFault;
 
 impl Contents {
     /// The first sequence that is kept, or would be, and the number of the last entry.
@@ -27,14 +22,20 @@ impl Contents {
         self.journal.bounds()
     }
 
-    /// The entries from the first sequence up to the last.
-    pub fn entries(&self, first: u64, last: u64) -> Result<&[Entry], Stop>
-        ensures { Shows result (entries_read first last self.now.state) }
+    /// The entries that are in memory: those that were deposited since the others were forgotten.
+    pub fn in_memory(&self) -> &[Entry]
+        ensures { result.now ≡ in_memory self.now.state.entries }
     {
-        match self.journal.entries(first, last) {
-            Ok(entries) => Ok(entries),
-            Err(fault) => Err(unread(fault)),
-        }
+        self.journal.in_memory()
+    }
+
+    /// The entries stand on the disk, and are no longer in memory. Their room stays.
+    pub fn forget(&mut self)
+        ensures state { self.new.state ≡ remembered self.old.state }
+        ensures room { self.old.room.entries ≤ self.new.room.entries }
+        ensures others { self.new.room ≡ record self.old.room { entries = self.new.room.entries } }
+    {
+        self.journal.forget();
     }
 
     /// The numbers of the first receiver that is kept and of the one that is attached.
@@ -45,7 +46,7 @@ impl Contents {
         (self.journal.first_receiver(), self.journal.attached())
     }
 
-    /// The sequence of the last entry of a receiver that isn't attached.
+    /// The sequence of the last entry of a receiver that isn't attached, where that one is in memory.
     pub fn last_in(&self, receiver: u32) -> Option<u64>
         ensures { result ≡ last_in receiver self.now.state.entries }
     {
@@ -86,15 +87,5 @@ impl Contents {
         ensures room { self.new.room ≡ self.old.room }
     {
         self.journal.save(sequence);
-    }
-}
-
-/// Why entries aren't read.
-fn unread(fault: JournalFault) -> Stop
-    ensures { result ≡ Refused (fault_reply fault) }
-{
-    match fault {
-        JournalFault::NoSuchEntry => Stop::Refused(Reply::NoSuchEntry),
-        JournalFault::ReceiverGone { sequence } => Stop::Refused(Reply::ReceiverGone { sequence }),
     }
 }

@@ -2,7 +2,6 @@
 ghost use Rattle.std.specs.Prelude.{◌≡◌};
 
 use crate::contents::Contents;
-use entry_codec::Entry;
 use file_catalogue::Catalogue;
 use member_slots::members::Members;
 
@@ -19,12 +18,5 @@ impl Contents {
         ensures { result.now.members ≡ self.now.state.members }
     {
         &self.members
-    }
-
-    /// The entries that its journal keeps.
-    pub fn all_entries(&self) -> &[Entry]
-        ensures { result.now ≡ self.now.state.entries }
-    {
-        self.journal.all_entries()
     }
 }

@@ -1,7 +1,7 @@
 //! What a restart puts into a library: the entries of its journal, numbers that were given before, and all slots of a member.
-ghost use Rattle.std.specs.Prelude.{◌≡◌, ◌≤◌, length, IfOk, IsSome};
-ghost use Rattle.journal_model.specs.Journal.{AreNumbered};
+ghost use Rattle.std.specs.Prelude.{◌≡◌, ◌≤◌, IfOk, IsSome};
 ghost use Rattle.memory_journal.specs.declared.journal.TheConstants.{LAST_NUMBER};
+ghost use Rattle.memory_journal.specs.Blanks.{blanks};
 ghost use Rattle.member_slots.specs.Members.{member_at, with_member};
 ghost use Rattle.library_steps.specs.MemberCommands.{with_slots};
 ghost use Rattle.library_steps.specs.State.{memory_of};
@@ -10,7 +10,6 @@ ghost use Rattle.library_parts.specs.Moved.{AreRemade};
 
 use crate::contents::Contents;
 use crate::members::{changes_with, weight};
-use entry_codec::Entry;
 use file_catalogue::Catalogue;
 use job_table::Jobs;
 use lock_table::LockTable;
@@ -22,11 +21,10 @@ use path_set::set::PathSet;
 use std::alloc::{AllocError, Global};
 
 impl Contents {
-    /// A library with these entries and nothing else, of which none is gone, with this receiver attached.
-    pub fn restarted(alloc: Global, entries: Vec<Entry>, attached: u32) -> Contents
-        requires numbered { AreNumbered 1 entries.items }
-        requires few { length entries.items ≤ LAST_NUMBER }
-        ensures { result.state ≡ library_with entries.items attached }
+    /// A library with so many entries on the disk and nothing else, of which none is gone, with this receiver attached.
+    pub fn restarted(alloc: Global, count: u64, attached: u32) -> Contents
+        requires { count ≤ LAST_NUMBER }
+        ensures { result.state ≡ library_with (blanks 1 count) attached }
     {
         Contents {
             alloc,
@@ -34,7 +32,7 @@ impl Contents {
             members: Members::new(alloc),
             member_bytes: 0,
             next_member: 1,
-            journal: MemoryJournal::restarted(entries, attached),
+            journal: MemoryJournal::restarted(alloc, count, attached),
             locks: LockTable::new(alloc),
             jobs: Jobs::new(alloc),
             paths: PathSet::new(alloc),

@@ -1,20 +1,16 @@
--- What the journal holds, what reading entries of it gives, and what attaching a receiver and giving receivers up change.
+-- What the journal holds, what is left of it in memory once its entries stand on the disk, and what attaching a receiver and giving receivers up change.
 -- (Journal Management, "Managing receivers".)
-use Rattle.std.specs.Prelude.{ℕ, ◌+◌, ◌-◌, Result, Ok, List, [], ◌++◌, length, drop, min, unwrap_or}
+use Rattle.std.specs.Prelude.{ℕ, ◌+◌, ◌-◌, List, [], ◌++◌, length, drop, min, unwrap_or}
 use Rattle.entry_codec.specs.declared.entries.Entry.{Entry}
 use Rattle.entry_codec.specs.declared.entries.Draft.{Draft}
 use Rattle.journal_model.specs.Rollback.{numbered_from}
-use Rattle.library_model.specs.declared.replies.Reply.{Reply}
-use Rattle.library_model.specs.declared.replies.Reply.TheVariants as replies
-use Rattle.library_steps.specs.State.{Memory, Receivers, empty_library, memory_of}
-use Rattle.library_steps.specs.Refusals.{◌>>=◌}
-use Rattle.library_steps.specs.JournalReads.{are_there, are_kept, entries_between}
+use Rattle.library_steps.specs.State.{Receivers}
 use Rattle.library_steps.specs.Receivers.{last_in}
 use Rattle.memory_journal.specs.declared.journal.TheConstants.{LAST_NUMBER}
-use Rattle.memory_journal.specs.declared.faults.JournalFault.{JournalFault}
-use Rattle.memory_journal.specs.declared.faults.JournalFault.TheVariants.{NoSuchEntry, ReceiverGone}
+use Rattle.memory_journal.specs.Blanks.{blanks}
 
--- how many entries are gone with their receivers, the entries that are kept, the receivers, and the sequence of the last checkpoint
+-- how many entries are gone with their receivers, the entries that are kept (blanks for those that aren't in memory), the receivers, and the sequence of
+-- the last checkpoint
 pub record Journal : Type 0 where
   pub gone : ℕ
   pub entries : List Entry
@@ -30,32 +26,21 @@ pub record Held : Type 0 where
   pub journal : Journal
   pub room : ℕ
 
+-- the same, and its entries stand on the disk alone
+abbrev pub forgotten : Journal → Journal
+forgotten j = record j { entries = blanks (j.gone + 1) (length j.entries) }
+
 -- the journal of a library with nothing in it
 abbrev pub empty_journal : Journal
 empty_journal = record { gone = 0; entries = []; receivers = record { first = 1; attached = 1 }; checkpoint = 0 }
 
--- these entries, of which none is gone, with this receiver attached
-abbrev pub restarted_journal : List Entry → (attached : ℕ) → Journal
-restarted_journal entries attached = record { gone = 0; entries = entries; receivers = record { first = 1; attached = attached }; checkpoint = 0 }
+-- so many entries on the disk, of which none is gone, with this receiver attached
+abbrev pub restarted_journal : (count attached : ℕ) → Journal
+restarted_journal count attached = record { gone = 0; entries = blanks 1 count; receivers = record { first = 1; attached = attached }; checkpoint = 0 }
 
 -- the number of the last entry
 abbrev pub last_entry : Journal → ℕ
 last_entry j = j.gone + length j.entries
-
--- a library with this journal and nothing else
-abbrev pub alone : Journal → Memory
-alone j = memory_of (record empty_library { gone = j.gone; entries = j.entries; receivers = j.receivers; checkpoint = j.checkpoint })
-
--- the entries from the first sequence up to the last, or the refusal
-abbrev pub read : (first last : ℕ) → Journal → Result (List Entry) Reply
-read first last j = do
-  _ ← are_there first last (alone j)
-  _ ← are_kept first (alone j)
-  Ok (entries_between first last (alone j) j.entries)
-
-abbrev pub fault_reply : JournalFault → Reply
-fault_reply NoSuchEntry = replies.NoSuchEntry
-fault_reply (ReceiverGone sequence) = replies.ReceiverGone sequence
 
 -- drafts become entries behind the last
 abbrev pub deposited : List Draft → Journal → Journal

@@ -1,13 +1,13 @@
-//! The journal in memory.
-ghost use Rattle.std.specs.Prelude.{◌≡◌, ◌≤◌, ◌<◌, ◌+◌, ◌^◌, [], ◌∷◌, ◌++◌, length, drop, vec_capacity, Ok, Err, OnOk, IfOk, IfErr};
+//! The journal in memory: what of it isn't on the disk yet, and how much is.
+ghost use Rattle.std.specs.Prelude.{◌≡◌, ◌≤◌, ◌<◌, ◌+◌, ◌^◌, [], ◌∷◌, ◌++◌, length, drop, vec_capacity, vec_len, OnOk};
 ghost use Rattle.library_steps.specs.declared.limits.TheConstants.{LAST_RECEIVER};
 ghost use Rattle.library_steps.specs.Receivers.{last_in};
 ghost use Rattle.journal_model.specs.Journal.{AreNumbered};
 ghost use Rattle.memory_journal.specs.declared.journal.TheConstants.{LAST_NUMBER};
-ghost use Rattle.memory_journal.specs.Journal.{empty_journal, restarted_journal, last_entry, read, fault_reply, deposited, attached, given_up, dropped};
+ghost use Rattle.memory_journal.specs.Blanks.{in_memory};
+ghost use Rattle.memory_journal.specs.Journal.{empty_journal, restarted_journal, last_entry, deposited, forgotten, attached, given_up, dropped};
 
 use crate::ends::next_receiver;
-use crate::faults::JournalFault;
 use entry_codec::{Draft, Entry};
 use library_steps::limits::LAST_RECEIVER;
 use std::alloc::{AllocError, Global};
@@ -19,10 +19,13 @@ pub const LAST_BEFORE_DEPOSIT: u64 = 9_223_372_036_854_775_808;
 /// The greatest sequence of an entry.
 pub const LAST_NUMBER: u64 = 9_223_372_036_854_775_810;
 
-/// The entries that are kept, the receivers, and the last checkpoint.
+/// The entries that aren't on the disk yet, how many stand before them, the receivers, and the last checkpoint. Contracts see a blank for each entry that
+/// stands on the disk alone.
 #[derive(Drop)]
 pub struct MemoryJournal {
     gone: u64,
+    /// How many entries that are kept stand on the disk alone.
+    passed: u64,
     entries: Vec<Entry>,
     first: u32,
     attached: u32,
@@ -30,9 +33,10 @@ pub struct MemoryJournal {
 }
 
 impl Model for MemoryJournal {
-    ghost use Rattle.std.specs.Prelude.{◌≤◌, ◌+◌, ◌-◌, length, vec_capacity, vec_len};
+    ghost use Rattle.std.specs.Prelude.{◌≡◌, ◌≤◌, ◌+◌, ◌-◌, ◌++◌, length, vec_capacity, vec_len};
     ghost use Rattle.journal_model.specs.Journal.{AreNumbered};
     ghost use Rattle.memory_journal.specs.declared.journal.TheConstants.{LAST_NUMBER};
+    ghost use Rattle.memory_journal.specs.Blanks.{blanks, in_memory};
     ghost use Rattle.memory_journal.specs.Journal.{Held, room_of};
 
     ghost Value = { Held };
@@ -40,14 +44,16 @@ impl Model for MemoryJournal {
     ghost view = { λ j. record {
       journal = record {
         gone = j.gone;
-        entries = j.entries.items;
+        entries = blanks (j.gone + 1) j.passed ++ j.entries.items;
         receivers = record { first = j.first; attached = j.attached };
         checkpoint = j.checkpoint;
       };
-      room = room_of (vec_capacity j.entries - vec_len j.entries) (j.gone + length j.entries.items);
+      room = room_of (vec_capacity j.entries - vec_len j.entries) (j.gone + (j.passed + length j.entries.items));
     } };
 
-    ghost invariant = { λ j. (j.gone + length j.entries.items ≤ LAST_NUMBER) × AreNumbered (j.gone + 1) j.entries.items };
+    ghost invariant = { λ j.
+        (j.gone + (j.passed + length j.entries.items) ≤ LAST_NUMBER) × AreNumbered (j.gone + 1 + j.passed) j.entries.items
+        × (in_memory j.entries.items ≡ j.entries.items) };
 }
 
 impl MemoryJournal {
@@ -57,6 +63,7 @@ impl MemoryJournal {
     {
         MemoryJournal {
             gone: 0,
+            passed: 0,
             entries: Vec::new(alloc),
             first: 1,
             attached: 1,
@@ -64,15 +71,15 @@ impl MemoryJournal {
         }
     }
 
-    /// These entries, from the first one on. No receiver is gone, and this one is attached.
-    pub fn restarted(entries: Vec<Entry>, attached: u32) -> MemoryJournal
-        requires numbered { AreNumbered 1 entries.items }
-        requires few { length entries.items ≤ LAST_NUMBER }
-        ensures { result.journal ≡ restarted_journal entries.items attached }
+    /// So many entries on the disk, from the first one on. No receiver is gone, and this one is attached.
+    pub fn restarted(alloc: Global, count: u64, attached: u32) -> MemoryJournal
+        requires { count ≤ LAST_NUMBER }
+        ensures { result.journal ≡ restarted_journal count attached }
     {
         MemoryJournal {
             gone: 0,
-            entries,
+            passed: count,
+            entries: Vec::new(alloc),
             first: 1,
             attached,
             checkpoint: 0,
@@ -87,10 +94,14 @@ impl MemoryJournal {
         ensures room { self.now.room ≤ LAST_NUMBER }
         ensures numbered { AreNumbered (self.now.journal.gone + 1) self.now.journal.entries }
     {
-        (self.gone + 1, self.gone + self.entries.len() as u64)
+        (
+            self.gone + 1,
+            self.gone + (self.passed + self.entries.len() as u64),
+        )
     }
 
     /// Makes room for so many entries more, where so many sequences are left. Their bytes count where the journal is on a disk.
+    #[tactic(auto, using(crate::proofs::BlankLemmas::length_behind))]
     pub fn reserve(&mut self, entries: u64, _bytes: u64) -> Result<(), AllocError>
         ensures unchanged { self.new.journal ≡ self.old.journal }
         ensures room { OnOk result (entries ≤ self.new.room) }
@@ -119,33 +130,26 @@ impl MemoryJournal {
         ensures deposited { self.new.journal ≡ deposited (draft ∷ []) self.old.journal }
         ensures room { self.old.room ≤ self.new.room + 1 }
     {
-        let sequence = self.gone + self.entries.len() as u64 + 1;
+        let (_, last) = self.bounds();
+        let sequence = last + 1;
         self.entries.push_reserved(draft.numbered(sequence));
         sequence
     }
 
-    /// The entries from the first sequence up to the last.
-    pub fn entries(&self, first: u64, last: u64) -> Result<&[Entry], JournalFault>
-        ensures entries { IfOk result (λ entries. read first last self.now.journal ≡ Ok entries.now) }
-        ensures refused { IfErr result (λ fault. read first last self.now.journal ≡ Err (fault_reply fault)) }
-    {
-        let (kept, behind) = self.bounds();
-        if last < first || first == 0 || behind < last {
-            return Err(JournalFault::NoSuchEntry);
-        }
-        if first < kept {
-            return Err(JournalFault::ReceiverGone { sequence: kept });
-        }
-        let from = (first - kept) as usize;
-        let count = (last + 1 - first) as usize;
-        Ok(&self.entries.as_slice()[from..from + count])
-    }
-
-    /// All entries that are kept.
-    pub fn all_entries(&self) -> &[Entry]
-        ensures { result.now ≡ self.now.journal.entries }
+    /// The entries that are in memory: those that were deposited since the others were forgotten.
+    pub fn in_memory(&self) -> &[Entry]
+        ensures { result.now ≡ in_memory self.now.journal.entries }
     {
         self.entries.as_slice()
+    }
+
+    /// The entries stand on the disk, and are no longer in memory. Their room stays.
+    pub fn forget(&mut self)
+        ensures journal { self.new.journal ≡ forgotten self.old.journal }
+        ensures room { self.old.room ≤ self.new.room }
+    {
+        self.passed += self.entries.len() as u64;
+        self.entries.clear();
     }
 
     /// The number of the first receiver that is kept.
@@ -162,18 +166,11 @@ impl MemoryJournal {
         self.attached
     }
 
-    /// The sequence of the last entry of a receiver that isn't attached.
+    /// The sequence of the last entry of a receiver that isn't attached, where that one is in memory.
     pub fn last_in(&self, receiver: u32) -> Option<u64>
         ensures { result ≡ last_in receiver self.now.journal.entries }
     {
-        for entry in self.entries.iter() {
-            if let Some(next) = next_receiver(&entry.kind) {
-                if u64::from(next) == u64::from(receiver) + 1 {
-                    return Some(entry.sequence);
-                }
-            }
-        }
-        None
+        last_among(self.entries.as_slice(), receiver)
     }
 
     /// Deposits the entry that ends the receiver and the one that begins the next, attaches that one, and answers its number.
@@ -200,6 +197,7 @@ impl MemoryJournal {
         self.give_up(receiver, last);
     }
 
+    #[tactic(auto, using(crate::proofs::BlankLemmas::length_behind))]
     fn give_up(&mut self, receiver: u32, last: u64)
         requires kept { self.old.journal.gone ≤ last }
         requires there { last ≤ last_entry self.old.journal }
@@ -207,8 +205,10 @@ impl MemoryJournal {
         ensures journal { self.new.journal ≡ given_up receiver last self.old.journal }
         ensures room { self.old.room ≤ self.new.room }
     {
-        let count = (last - self.gone) as usize;
-        drop_front(&mut self.entries, count);
+        let count = last - self.gone;
+        let in_memory = count.saturating_sub(self.passed);
+        self.passed = self.passed.saturating_sub(count);
+        drop_front(&mut self.entries, in_memory as usize);
         self.gone = last;
         self.first = receiver + 1;
     }
@@ -229,11 +229,26 @@ impl MemoryJournal {
     }
 }
 
+/// The sequence of the last entry of a receiver among these.
+fn last_among(entries: &[Entry], receiver: u32) -> Option<u64>
+    ensures { result ≡ last_in receiver entries.now }
+{
+    for entry in entries {
+        if let Some(next) = next_receiver(&entry.kind) {
+            if u64::from(next) == u64::from(receiver) + 1 {
+                return Some(entry.sequence);
+            }
+        }
+    }
+    None
+}
+
 /// The first entries are gone; the others keep their order, and the memory stays.
 fn drop_front(entries: &mut Vec<Entry>, count: usize)
     requires { count ≤ length entries.old.items }
     ensures items { entries.new.items ≡ drop count entries.old.items }
     ensures capacity { vec_capacity entries.new ≡ vec_capacity entries.old }
+    ensures len { vec_len entries.new + count ≡ vec_len entries.old }
 {
     let left = entries.len() - count;
     entries.rotate_left(count);

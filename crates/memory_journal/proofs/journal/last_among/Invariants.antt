@@ -1,0 +1,6 @@
+use Rattle.std.proofs.Common.{◌≡◌, drop}
+use Rattle.library_steps.specs.Receivers.{last_in}
+use Rattle.memory_journal.proofs.journal.last_among.Given as goal
+
+abbrev pub invariant-loop-entry : goal.invariant-loop-entry
+invariant-loop-entry l = last_in l.receiver (drop l.entry-index l.entries) ≡ last_in l.receiver l.entries
