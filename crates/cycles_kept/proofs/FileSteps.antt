@@ -261,18 +261,18 @@ range-cycles : (s : State) (work : RangeWork) → user_of work.range.status.numb
 range-cycles s work none =
     unused-member s (range_change (memory_of s) work) work.range.status.number (record (member_of work.range.status.number s.members) { slots = work.done.slots }) none refl refl refl
 
-module _ (s : State) (job timestamp : ℕ) (args : JournaledChanges) where
-  pub apply-cycles : Holds (apply_changes s.entries (memory_of s) job timestamp args) (HaveCycles s)
+module _ (s : State) (read : List Entry) (job timestamp : ℕ) (args : JournaledChanges) where
+  pub apply-cycles : Holds (apply_changes read (memory_of s) job timestamp args) (HaveCycles s)
   apply-cycles =
-      does-holds (range_change (memory_of s)) (apply_plan s.entries (memory_of s) job timestamp args) (HaveCycles s)
-      (wider-holds (apply_plan s.entries (memory_of s) job timestamp args) (λ (work : RangeWork). user_of work.range.status.number (memory_of s) ≡ None) _ (λ work none. range-cycles s work none)
-      (apply-unused s.entries (memory_of s) job timestamp args))
+      does-holds (range_change (memory_of s)) (apply_plan read (memory_of s) job timestamp args) (HaveCycles s)
+      (wider-holds (apply_plan read (memory_of s) job timestamp args) (λ (work : RangeWork). user_of work.range.status.number (memory_of s) ≡ None) _ (λ work none. range-cycles s work none)
+      (apply-unused read (memory_of s) job timestamp args))
 
-  pub remove-cycles : Holds (remove_changes s.entries (memory_of s) job timestamp args) (HaveCycles s)
+  pub remove-cycles : Holds (remove_changes read (memory_of s) job timestamp args) (HaveCycles s)
   remove-cycles =
-      does-holds (range_change (memory_of s)) (remove_plan s.entries (memory_of s) job timestamp args) (HaveCycles s)
-      (wider-holds (remove_plan s.entries (memory_of s) job timestamp args) (λ (work : RangeWork). user_of work.range.status.number (memory_of s) ≡ None) _ (λ work none. range-cycles s work none)
-      (remove-unused s.entries (memory_of s) job timestamp args))
+      does-holds (range_change (memory_of s)) (remove_plan read (memory_of s) job timestamp args) (HaveCycles s)
+      (wider-holds (remove_plan read (memory_of s) job timestamp args) (λ (work : RangeWork). user_of work.range.status.number (memory_of s) ≡ None) _ (λ work none. range-cycles s work none)
+      (remove-unused read (memory_of s) job timestamp args))
 
 -- ---- no member at all
 
@@ -291,11 +291,11 @@ end_journaling-cycles s job timestamp args = effect-holds _ _ (HaveCycles s) (λ
 pub change_journal-cycles : (s : State) (job timestamp : ℕ) → Holds (change_journal (memory_of s) job timestamp) (HaveCycles s)
 change_journal-cycles s job timestamp = effect-holds _ _ (HaveCycles s) (λ number. untouched s _ refl refl refl)
 
-pub delete_receiver-cycles : (s : State) (args : DeleteReceiver) → Holds (delete_receiver s.entries (memory_of s) args) (HaveCycles s)
-delete_receiver-cycles s args = effect-holds _ _ (HaveCycles s) (λ last. untouched s _ refl refl refl)
+pub delete_receiver-cycles : (s : State) (read : List Entry) (args : DeleteReceiver) → Holds (delete_receiver read (memory_of s) args) (HaveCycles s)
+delete_receiver-cycles s read args = effect-holds _ _ (HaveCycles s) (λ last. untouched s _ refl refl refl)
 
 pub save-cycles : (s : State) → Holds (save (memory_of s)) (HaveCycles s)
 save-cycles s = effect-holds _ _ (HaveCycles s) (λ sequence. untouched s _ refl refl refl)
 
-pub display_journal-cycles : (s : State) (args : DisplayJournal) → Holds (display_journal s.entries (memory_of s) args) (HaveCycles s)
-display_journal-cycles s args = effect-holds _ _ (HaveCycles s) (λ shown. untouched s _ refl refl refl)
+pub display_journal-cycles : (s : State) (read : List Entry) (args : DisplayJournal) → Holds (display_journal read (memory_of s) args) (HaveCycles s)
+display_journal-cycles s read args = effect-holds _ _ (HaveCycles s) (λ shown. untouched s _ refl refl refl)

@@ -3,6 +3,7 @@ use Rattle.std.proofs.Common.{◌≡◌, ◌≢◌, ◌∙◌, ◌⊎◌, inl, i
 use Rattle.std.specs.List.{AllByRecursion, list_any}
 use Rattle.std.specs.Option.{is_none, option_and_then}
 use Rattle.std.proofs.lemmas.Bool.Decides.{nat_tests}
+use Rattle.entry_codec.specs.declared.entries.Entry.{Entry}
 use Rattle.journal_model.specs.Rollback.{MemberChange}
 use Rattle.lock_table.specs.declared.levels.Call.{Call}
 use Rattle.dds_logical.specs.declared.join_views.JoinView.{JoinView}
@@ -408,7 +409,7 @@ module _ (s : State) (job : ℕ) (new : NewSlot) (were : WereJournaled s) where
 
 -- ---- each request
 
-module _ (s : State) (sources : List NamedSource) (job timestamp : ℕ) (sound : IsSound s) (were : WereJournaled s) where
+module _ (s : State) (sources : List NamedSource) (job timestamp : ℕ) (sound : IsSound s) (were : WereJournaled s) (read : List Entry) where
   -- a change of one open that keeps its member and its commitment
   with-open : (c : Change) (number : ℕ) (g : OpenState → OpenState) → c.memory.jobs ≡ job_changed (job - 1) (open_changed number g) s.jobs → c.memory.files ≡ s.files
       → ((opened : OpenState) → IsJournaledBy s.files opened → IsJournaledBy s.files (g opened)) → StayJournaled s c
@@ -457,7 +458,7 @@ module _ (s : State) (sources : List NamedSource) (job timestamp : ℕ) (sound :
       → ((j : JobState) → AreJournaledBy s.files j.opens → AreJournaledBy s.files (f j).opens) → StayJournaled s c
   taken-back c f jobs files each = one-open s c (job - 1) f were jobs files each
 
-  pub change-stays : (r : Request) → Holds (change sources s.entries (memory_of s) job timestamp r) (StayJournaled s)
+  pub change-stays : (r : Request) → Holds (change sources read (memory_of s) job timestamp r) (StayJournaled s)
   unfolding change
   change-stays (request.CreatePhysicalFile args) = effect-holds _ _ (StayJournaled s) (λ new. images-stay s _ were refl (λ number some. images-more number s.files _ some))
   change-stays (request.CreateLogicalFile args) = effect-holds _ _ (StayJournaled s) (λ new. images-stay s _ were refl (λ number some. images-more number s.files _ some))

@@ -1,5 +1,6 @@
 -- What each request deposits in the journal, and what it gives up.
-use Rattle.std.proofs.Common.{ℕ, ◌+◌, ◌≤◌, not, is_some, length, List, refl, arith}
+use Rattle.std.proofs.Common.{ℕ, ◌+◌, ◌≤◌, not, is_some, length, List, unwrap_or, refl, subst, arith}
+use Rattle.entry_codec.specs.declared.entries.Entry.{Entry}
 use Rattle.entry_codec.specs.declared.kinds.EntryKind.TheVariants.{MemberCleared, MemberReorganized}
 use Rattle.member_slots.specs.Members.{member_of}
 use Rattle.lawful_states.proofs.NumberLemmas.{given-within}
@@ -15,33 +16,35 @@ use Rattle.library_steps.specs.Commitment.{changes_of, end_drafts, undo_entries}
 use Rattle.library_steps.specs.Drafts.{author_of, initial_drafts, member_draft}
 use Rattle.library_steps.specs.EndJob.{end_drafts as job_drafts}
 use Rattle.library_steps.specs.MemberCommands.{if_journaled}
-use Rattle.library_steps.specs.Receivers.{delete_receiver, give_up_plan, is_kept, is_needed}
+use Rattle.library_steps.specs.Receivers.{delete_receiver, give_up_plan, is_kept, is_needed, last_in}
 use Rattle.library_steps.specs.Refusals.{refuse_if}
 use Rattle.library_steps.specs.Reads.{position_change, read_change}
 use Rattle.library_steps.specs.Step.{change}
 use Rattle.library_steps.specs.WriteRecord.{write_call, write_change, write_plan}
-use Rattle.joint_state.specs.Sound.{IsSound}
+use Rattle.joint_state.specs.Sound.{MayBeRead}
 use Rattle.cycles_kept.proofs.BoundarySteps.{taken_back-gone, taken_back-last}
 use Rattle.cycles_kept.proofs.HoldLemmas.{Holds, does-holds, effect-holds, then-holds, wider-holds}
 use Rattle.cycles_kept.proofs.JournalLemmas.{IsJournaled, deposits, deposits-none, gives-up, numbered-behind, numbered-drafts}
 use Rattle.cycles_kept.proofs.RecordSteps.{delete-journaled, update-journaled, write-journaled}
 
--- what goes with a receiver was kept
-kept-before : (s : State) (args : DeleteReceiver) → IsSound s → Holds (give_up_plan s.entries (memory_of s) args) (λ last. (s.gone ≤ last) × (last ≤ s.gone + length s.entries))
+-- what goes with a receiver was kept, whichever entry was read as its last
+kept-before : (s : State) (read : List Entry) (args : DeleteReceiver) → MayBeRead s read
+    → Holds (give_up_plan read (memory_of s) args) (λ last. (s.gone ≤ last) × (last ≤ s.gone + length s.entries))
 unfolding give_up_plan
-kept-before s args sound =
+kept-before s read args reads =
+    let last = unwrap_or (last_in args.number read) s.gone in
     then-holds (refuse_if (not (is_kept args.number (memory_of s))) (NoSuchName (Receiver args.number))) _ _ (λ there.
-    then-holds (refuse_if (is_needed args.number s.entries (memory_of s)) (StillNeeded (s.checkpoint + 1))) _ _ (λ unneeded.
-    record { holds = given-within args.number s.gone s.entries sound.numbered }))
+    then-holds (refuse_if (is_needed args.number read (memory_of s)) (StillNeeded (s.checkpoint + 1))) _ _ (λ unneeded.
+    record { holds = subst (λ (n : ℕ). (s.gone ≤ last) × (last ≤ s.gone + n)) reads.count (given-within args.number s.gone read reads.numbered) }))
 
-delete_receiver-journaled : (s : State) (args : DeleteReceiver) → IsSound s → Holds (delete_receiver s.entries (memory_of s) args) (IsJournaled s)
-delete_receiver-journaled s args sound =
-    does-holds _ (give_up_plan s.entries (memory_of s) args) (IsJournaled s)
-    (wider-holds (give_up_plan s.entries (memory_of s) args) (λ last. (s.gone ≤ last) × (last ≤ s.gone + length s.entries)) _ (λ last within. gives-up s _ refl within.0 within.1)
-    (kept-before s args sound))
+delete_receiver-journaled : (s : State) (read : List Entry) (args : DeleteReceiver) → MayBeRead s read → Holds (delete_receiver read (memory_of s) args) (IsJournaled s)
+delete_receiver-journaled s read args reads =
+    does-holds _ (give_up_plan read (memory_of s) args) (IsJournaled s)
+    (wider-holds (give_up_plan read (memory_of s) args) (λ last. (s.gone ≤ last) × (last ≤ s.gone + length s.entries)) _ (λ last within. gives-up s _ refl within.0 within.1)
+    (kept-before s read args reads))
 
-module _ (s : State) (sources : List NamedSource) (job timestamp : ℕ) (sound : IsSound s) where
-  pub change-journaled : (r : Request) → Holds (change sources s.entries (memory_of s) job timestamp r) (IsJournaled s)
+module _ (s : State) (sources : List NamedSource) (job timestamp : ℕ) (read : List Entry) (reads : MayBeRead s read) where
+  pub change-journaled : (r : Request) → Holds (change sources read (memory_of s) job timestamp r) (IsJournaled s)
   unfolding change
   change-journaled (request.CreatePhysicalFile args) = effect-holds _ _ (IsJournaled s) (λ new. deposits s _ refl (refl, tt))
   change-journaled (request.CreateLogicalFile args) = effect-holds _ _ (IsJournaled s) (λ new. deposits s _ refl (refl, tt))
@@ -58,7 +61,7 @@ module _ (s : State) (sources : List NamedSource) (job timestamp : ℕ) (sound :
       (refl, numbered-drafts (s.gone + length s.entries + 1 + 1) (initial_drafts (author_of (memory_of s) job timestamp) status.number 1 (member_of status.number s.members).slots)))
   change-journaled (request.EndJournaling args) = effect-holds _ _ (IsJournaled s) (λ status. deposits s _ refl (refl, tt))
   change-journaled request.ChangeJournal = effect-holds _ _ (IsJournaled s) (λ number. deposits s _ refl (refl, (refl, tt)))
-  change-journaled (request.DeleteReceiver args) = delete_receiver-journaled s args sound
+  change-journaled (request.DeleteReceiver args) = delete_receiver-journaled s read args reads
   change-journaled request.Checkpoint = effect-holds _ _ (IsJournaled s) (λ sequence. gives-up s _ refl (omega arith) (omega arith))
   change-journaled (request.DisplayJournal args) = effect-holds _ _ (IsJournaled s) (λ shown. deposits-none s _ refl refl)
   change-journaled (request.ApplyChanges args) = effect-holds _ _ (IsJournaled s) (λ work. deposits s _ refl (numbered-drafts (s.gone + length s.entries + 1) work.drafts))

@@ -5,6 +5,7 @@ use Rattle.std.specs.Map.{keys_of}
 use Rattle.std.proofs.lemmas.Cmp.{nat_list_eq_equiv}
 use Rattle.std.proofs.lemmas.Map.Keys.{IsDistinct-push}
 use Rattle.std.proofs.lemmas.Map.Made.{IsDistinct-keys_filter}
+use Rattle.entry_codec.specs.declared.entries.Entry.{Entry}
 use Rattle.library_model.specs.Named.{Named, named, same_name}
 use Rattle.library_model.specs.SourceList.{text_of}
 use Rattle.library_model.specs.declared.limits.TheConstants.{MOST_FILES, LAST_MEMBER}
@@ -100,8 +101,8 @@ create_logical-names s sources job timestamp args =
 
 -- ---- each request
 
-module _ (s : State) (sources : List NamedSource) (job timestamp : ℕ) where
-  pub change-names : (r : Request) → Holds (change sources s.entries (memory_of s) job timestamp r) (NamesStay s)
+module _ (s : State) (sources : List NamedSource) (job timestamp : ℕ) (read : List Entry) where
+  pub change-names : (r : Request) → Holds (change sources read (memory_of s) job timestamp r) (NamesStay s)
   unfolding change
   change-names (request.CreatePhysicalFile args) = create-names s sources job timestamp args
   change-names (request.CreateLogicalFile args) = create_logical-names s sources job timestamp args

@@ -2,6 +2,7 @@
 use Rattle.std.proofs.Common.{◌≡◌, ℕ, ◌+◌, List, slice_get, Some}
 use Rattle.std.specs.List.{IsDistinct}
 use Rattle.std.specs.Map.{keys_of}
+use Rattle.entry_codec.specs.declared.entries.Entry.{Entry}
 use Rattle.journal_model.specs.Journal.{AreNumbered}
 use Rattle.library_model.specs.Named.{same_name}
 use Rattle.library_model.specs.declared.requests.Request.{Request}
@@ -25,8 +26,8 @@ use Rattle.cycles_kept.proofs.NameSteps.{NamesStay, change-names}
 use Rattle.cycles_kept.proofs.OpenSteps.{chain-cycles, close_file-cycles, open_file-cycles, read-cycles, read_equal-cycles, read_prior-cycles, read_prior_equal-cycles, set_greater_than-cycles, set_lower_limit-cycles, unlock-cycles}
 use Rattle.cycles_kept.proofs.RecordSteps.{delete-cycles, update-cycles, write-cycles}
 
-module _ (s : State) (sources : List NamedSource) (job timestamp : ℕ) (sound : IsSound s) (asks : IsAsking s job) where
-  change-cycles : (r : Request) → Holds (change sources s.entries (memory_of s) job timestamp r) (HaveCycles s)
+module _ (s : State) (sources : List NamedSource) (job timestamp : ℕ) (sound : IsSound s) (asks : IsAsking s job) (read : List Entry) where
+  change-cycles : (r : Request) → Holds (change sources read (memory_of s) job timestamp r) (HaveCycles s)
   unfolding change
   change-cycles (request.CreatePhysicalFile args) = create-cycles s sources job timestamp args sound
   change-cycles (request.CreateLogicalFile args) = create_logical-cycles s sources job timestamp args
@@ -37,11 +38,11 @@ module _ (s : State) (sources : List NamedSource) (job timestamp : ℕ) (sound :
   change-cycles (request.StartJournaling args) = start_journaling-cycles s job timestamp args
   change-cycles (request.EndJournaling args) = end_journaling-cycles s job timestamp args
   change-cycles request.ChangeJournal = change_journal-cycles s job timestamp
-  change-cycles (request.DeleteReceiver args) = delete_receiver-cycles s args
+  change-cycles (request.DeleteReceiver args) = delete_receiver-cycles s read args
   change-cycles request.Checkpoint = save-cycles s
-  change-cycles (request.DisplayJournal args) = display_journal-cycles s args
-  change-cycles (request.ApplyChanges args) = apply-cycles s job timestamp args
-  change-cycles (request.RemoveChanges args) = remove-cycles s job timestamp args
+  change-cycles (request.DisplayJournal args) = display_journal-cycles s read args
+  change-cycles (request.ApplyChanges args) = apply-cycles s read job timestamp args
+  change-cycles (request.RemoveChanges args) = remove-cycles s read job timestamp args
   change-cycles (request.StartCommitment args) = start_commitment-cycles s job sound asks timestamp args
   change-cycles request.EndCommitment = end_commitment-cycles s job sound asks timestamp
   change-cycles request.Commit = commit-cycles s job sound asks timestamp
@@ -65,12 +66,13 @@ module _ (s : State) (sources : List NamedSource) (job timestamp : ℕ) (sound :
 
 cycles-of : (s : State) (done : Change) → Does s done → HaveCycles s done
 cycles-of s done d =
-    holds-done (change d.sources s.entries (memory_of s) d.job d.timestamp d.request) (HaveCycles s) done d.does
-    (change-cycles s d.sources d.job d.timestamp d.sound (asking s d.job d.sound.joint d.running) d.request)
+    holds-done (change d.sources d.read (memory_of s) d.job d.timestamp d.request) (HaveCycles s) done d.does
+    (change-cycles s d.sources d.job d.timestamp d.sound (asking s d.job d.sound.joint d.running) d.read d.request)
 
 journal-of : (s : State) (done : Change) → Does s done → IsJournaled s done
 journal-of s done d =
-    holds-done (change d.sources s.entries (memory_of s) d.job d.timestamp d.request) (IsJournaled s) done d.does (change-journaled s d.sources d.job d.timestamp d.sound d.request)
+    holds-done (change d.sources d.read (memory_of s) d.job d.timestamp d.request) (IsJournaled s) done d.does
+    (change-journaled s d.sources d.job d.timestamp d.read d.reads d.request)
 
 pub begun-kept : IsKept (λ s. (place : ℕ) (job : JobState) → slice_get s.jobs place ≡ Some job → HasBegun (memory_of s) job)
 begun-kept s done d = begun-after s done (journal-of s done d) d.sound.joint (cycles-of s done d)
@@ -86,13 +88,13 @@ numbered-kept s done d = numbered-after s done d.sound.numbered (journal-of s do
 
 names-of : (s : State) (done : Change) → Does s done → NamesStay s done
 names-of s done d =
-    holds-done (change d.sources s.entries (memory_of s) d.job d.timestamp d.request) (NamesStay s) done d.does (change-names s d.sources d.job d.timestamp d.request)
+    holds-done (change d.sources d.read (memory_of s) d.job d.timestamp d.request) (NamesStay s) done d.does (change-names s d.sources d.job d.timestamp d.read d.request)
 
 pub names-kept : IsKept (λ s. IsDistinct same_name (keys_of s.files))
 names-kept s done d = (names-of s done d).names d.sound.names
 
 pub journaled-kept : IsKept (λ s. (place : ℕ) (job : JobState) → slice_get s.jobs place ≡ Some job → AreJournaled (memory_of s) job)
 journaled-kept s done d =
-    let stays = holds-done (change d.sources s.entries (memory_of s) d.job d.timestamp d.request) (StayJournaled s) done d.does
-    (change-stays s d.sources d.job d.timestamp d.sound (λ place old there. (d.sound.joint.jobs place old there).journaled) d.request) in
+    let stays = holds-done (change d.sources d.read (memory_of s) d.job d.timestamp d.request) (StayJournaled s) done d.does
+    (change-stays s d.sources d.job d.timestamp d.sound (λ place old there. (d.sound.joint.jobs place old there).journaled) d.read d.request) in
     stays.stay

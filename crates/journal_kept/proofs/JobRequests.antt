@@ -5,6 +5,7 @@ use Rattle.std.specs.Option.{is_none, is_some}
 use Rattle.dds_logical.specs.declared.join_views.JoinView.{JoinView}
 use Rattle.entry_codec.specs.declared.entries.Draft.{Draft}
 use Rattle.entry_codec.specs.declared.kinds.Images.{Images}
+use Rattle.entry_codec.specs.declared.entries.Entry.{Entry}
 use Rattle.entry_codec.specs.declared.kinds.EntryKind.TheVariants.{CommitmentEnded, CommitmentStarted, NextReceiver, PreviousReceiver}
 use Rattle.lock_table.specs.declared.lock.Lock.{Lock}
 use Rattle.lock_table.specs.declared.levels.Call.{Call}
@@ -234,7 +235,7 @@ module _ (s : State) (sound : IsSound s) where
       does-each (save_change (memory_of s)) (save_plan (memory_of s)) done (λ c. Agrees (after s c)) h
       (λ sequence is. quiet-kept [] true Done (record (memory_of s) { checkpoint = sequence }) refl refl refl nothing sound.agreed.committed)
 
-  pub display_journal-kept : (args : DisplayJournal) (done : Change) → display_journal s.entries (memory_of s) args ≡ Ok done → Agrees (after s done)
-  display_journal-kept args done h =
-      does-each _ (display_plan s.entries (memory_of s) args) done (λ c. Agrees (after s c)) h
+  pub display_journal-kept : (read : List Entry) (args : DisplayJournal) (done : Change) → display_journal read (memory_of s) args ≡ Ok done → Agrees (after s done)
+  display_journal-kept read args done h =
+      does-each _ (display_plan read (memory_of s) args) done (λ c. Agrees (after s c)) h
       (λ shown is. quiet-kept [] true Done (memory_of s) refl refl refl nothing sound.agreed.committed)

@@ -26,9 +26,11 @@ use Rattle.library_model.specs.declared.requests.FileMember.{FileMember}
 use Rattle.library_model.specs.declared.requests.StartJournaling.{StartJournaling}
 use Rattle.library_model.specs.declared.requests.JournaledChanges.{JournaledChanges}
 use Rattle.library_model.specs.declared.requests.Request.TheVariants.{ApplyChanges, RemoveChanges}
+use Rattle.library_model.specs.declared.sources.NamedSource.{NamedSource}
 use Rattle.library_steps.specs.State.{State, Memory, FileState, MemberStatus, OpenState, JobState, memory_of, with_status}
 use Rattle.library_steps.specs.Change.{Change, journaled}
 use Rattle.library_steps.specs.Refusals.{FoundMember, member_of_file, refuse_if, sequences_left}
+use Rattle.library_steps.specs.Step.{change}
 use Rattle.library_steps.specs.Uses.{changes_in, first_job, has_boundary_lock, has_changed, has_open_over, unused, user_of, uses}
 use Rattle.library_steps.specs.SlotChange.{images_of, status_among}
 use Rattle.library_steps.specs.Drafts.{Author, author_of, cycle_draft, initial_drafts, member_draft}
@@ -37,10 +39,9 @@ use Rattle.library_steps.specs.Journaling.{end_change, end_journaling, end_plan,
 use Rattle.library_steps.specs.Ranges.{Given, RangeWork, before_or_deleted, given_back, given_drafts, given_forward, range_change, slots_now, told}
 use Rattle.lawful_states.proofs.MemberLemmas.{item_at-with_item_other, member_of-with}
 use Rattle.joint_state.specs.Agreed.{Agrees, AreAllJournaled, StaysJournaled, is_journaled}
-use Rattle.joint_state.specs.Sound.{IsSound, after}
-use Rattle.range_histories.specs.Ranges.{IsDone}
+use Rattle.joint_state.specs.Sound.{IsSound, MayBeRead, after}
 use Rattle.range_histories.proofs.ResultLemmas.{bind-ok, member_of_file-ok, unused-ok}
-use Rattle.range_histories.proofs.WorkLemmas.{is_applied, is_removed}
+use Rattle.range_histories.proofs.WorkLemmas.{read-applied, read-removed}
 use Rattle.range_histories.proofs.HistoryLemmas.{named-is_there}
 use Rattle.journal_kept.proofs.KnownLemmas.{Leads, quiet-began, quiet-committed, quiet-nothing}
 use Rattle.journal_kept.proofs.DraftLemmas.{DraftsLead, IsQuietKind, IsSilent, SlotLeads, all-append, drafts-none, given_drafts-lead, given_drafts-of, initial_drafts-lead, initial_drafts-of, of-others, put_all, single, slots-append, slots-silent}
@@ -365,9 +366,10 @@ module _ (s : State) (sound : IsSound s) where
   some-images None e = absurd cc
   some-images (Some a) e = refl
 
-  pub apply_changes-kept : (args : JournaledChanges) (done : Change) → IsDone s (ApplyChanges args) done → Agrees (after s done)
-  apply_changes-kept args done d =
-      let r = is_applied s args done d in
+  pub apply_changes-kept : (read : List Entry) → MayBeRead s read → (sources : List NamedSource) (job timestamp : ℕ) (args : JournaledChanges) (done : Change)
+      → change sources read (memory_of s) job timestamp (ApplyChanges args) ≡ Ok done → Agrees (after s done)
+  apply_changes-kept read reads sources job timestamp args done h =
+      let r = read-applied s read args done reads.count sources job timestamp h in
       let went = apply_range-went r.range.first r.range.acts (slots_now r.range (memory_of s)) r.walk r.walked in
       let own : is_journaled r.range.status.number s.files ≡ true
       = journaled-found s.files args.file args.member r.named.file r.range.status sound.names sound.apart r.named.there r.named.has ∙ some-images r.range.status.images r.named.journaled in
@@ -379,9 +381,10 @@ module _ (s : State) (sound : IsSound s) where
       (range-kept (author_of (memory_of s) r.job r.timestamp) ((memory_of s).last_entry + 2) (ChangesApplied r.walk.first r.walk.last (length r.walk.changes)) (λ prior e. quiet-nothing)
       (Range r.walk.first r.walk.last (length r.walk.changes)) r.range.status.number (given_forward r.walk.changes) r.walk.slots given there own))
 
-  pub remove_changes-kept : (args : JournaledChanges) (done : Change) → IsDone s (RemoveChanges args) done → Agrees (after s done)
-  remove_changes-kept args done d =
-      let r = is_removed s args done d in
+  pub remove_changes-kept : (read : List Entry) → MayBeRead s read → (sources : List NamedSource) (job timestamp : ℕ) (args : JournaledChanges) (done : Change)
+      → change sources read (memory_of s) job timestamp (RemoveChanges args) ≡ Ok done → Agrees (after s done)
+  remove_changes-kept read reads sources job timestamp args done h =
+      let r = read-removed s read args done reads.count sources job timestamp h in
       let went = remove_range-went r.range.first r.range.acts (slots_now r.range (memory_of s)) r.walk r.walked in
       let own : is_journaled r.range.status.number s.files ≡ true
       = journaled-found s.files args.file args.member r.named.file r.range.status sound.names sound.apart r.named.there r.named.has ∙ some-images r.range.status.images r.named.journaled in

@@ -122,9 +122,10 @@ drop-less member place n entries h =
     = ap (known_after place None) parts ∙ known_after-append place None (acts member None (take n entries)) (acts member prior (drop n entries)) in
     (rest.0, subst (IsLess (known_after place None (acts member None (drop n entries)))) (sym all) rest.1)
 
-pub delete_receiver-kept : (s : State) → IsSound s → (args : DeleteReceiver) (done : Change) → delete_receiver s.entries (memory_of s) args ≡ Ok done → Agrees (after s done)
-delete_receiver-kept s sound args done h =
-    does-each _ (give_up_plan s.entries (memory_of s) args) done (λ c. Agrees (after s c)) h (λ last is. record {
+pub delete_receiver-kept : (s : State) → IsSound s → (read : List Entry) (args : DeleteReceiver) (done : Change) → delete_receiver read (memory_of s) args ≡ Ok done
+    → Agrees (after s done)
+delete_receiver-kept s sound read args done h =
+    does-each _ (give_up_plan read (memory_of s) args) done (λ c. Agrees (after s c)) h (λ last is. record {
       chained = λ member place. subst (λ (es : List Entry). IsChained place None (acts member None es)) (sym (left last)) (less last member place).0;
       told = λ member place there. record {
         so = subst (λ (es : List Entry). IsSo (known_after place None (acts member None es)) (slot_of (member_of member s.members).slots place)) (sym (left last))

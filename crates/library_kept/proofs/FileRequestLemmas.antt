@@ -1,6 +1,7 @@
 -- What each request leaves of the files.
 use Rattle.std.proofs.Common.{◌≡◌, ℕ, ◌+◌, length, Bool, true, false, Ok, List, [], ◌∷◌, refl, sym, subst}
 use Rattle.lawful_states.specs.declared.changes.StatusChange.TheVariants.{Touched, Renumbered, Journaled, Unjournaled}
+use Rattle.entry_codec.specs.declared.entries.Entry.{Entry}
 use Rattle.file_model.specs.Positions.{Before, Past, next_from, prior_from, next_equal, prior_equal}
 use Rattle.journal_model.specs.Replay.{before_of}
 use Rattle.journal_model.specs.Rollback.{MemberChange}
@@ -53,7 +54,7 @@ pub back-next : (undos : List MemberChange) (m : Memory) → (taken_back undos m
 back-next [] m = refl
 back-next (undo ∷ undos) m = back-next undos (with_slot undo.member (undo.change.place + 1) (before_of undo.change) m)
 
-module _ (s : State) (job timestamp : ℕ) (sound : IsSound s) where
+module _ (s : State) (job timestamp : ℕ) (sound : IsSound s) (read : List Entry) where
   abbrev m : Memory
   m = memory_of s
 
@@ -72,7 +73,7 @@ module _ (s : State) (job timestamp : ℕ) (sound : IsSound s) where
   back-kept : KeepsFiles s (taken_back (changes_of (job_of job m).cycle) m).files
   back-kept = subst (KeepsFiles s) (sym (back-files (changes_of (job_of job m).cycle) m)) same
 
-  pub files-kept : (sources : List NamedSource) (done : Change) (request : Request) → change sources s.entries m job timestamp request ≡ Ok done → KeepsFiles s done.memory.files
+  pub files-kept : (sources : List NamedSource) (done : Change) (request : Request) → change sources read m job timestamp request ≡ Ok done → KeepsFiles s done.memory.files
   unfolding change
   files-kept sources done (requests.CreatePhysicalFile args) h =
       does-each (create_change m job timestamp args) (create_plan sources m args) done Kept h (λ plan is. let good = plan-good sources m args plan is in keeps-more s sound args.file plan good.laid good.defaults)
@@ -92,11 +93,11 @@ module _ (s : State) (job timestamp : ℕ) (sound : IsSound s) where
       does-each (end_journaling_change m job timestamp) (end_journaling_plan m args) done Kept h
       (λ status is. keeps-status s sound status.number (Unjournaled (m.last_entry + 1) (length (records (member_of status.number s.members)))))
   files-kept sources done requests.ChangeJournal h = does-each (attach_change m job timestamp) (attach_plan m) done Kept h (λ number is. same)
-  files-kept sources done (requests.DeleteReceiver args) h = does-each _ (give_up_plan s.entries m args) done Kept h (λ last is. same)
+  files-kept sources done (requests.DeleteReceiver args) h = does-each _ (give_up_plan read m args) done Kept h (λ last is. same)
   files-kept sources done requests.Checkpoint h = does-each (save_change m) (save_plan m) done Kept h (λ sequence is. same)
-  files-kept sources done (requests.DisplayJournal args) h = does-each _ (display_plan s.entries m args) done Kept h (λ shown is. same)
-  files-kept sources done (requests.ApplyChanges args) h = does-each (range_change m) (apply_plan s.entries m job timestamp args) done Kept h (λ work is. same)
-  files-kept sources done (requests.RemoveChanges args) h = does-each (range_change m) (remove_plan s.entries m job timestamp args) done Kept h (λ work is. same)
+  files-kept sources done (requests.DisplayJournal args) h = does-each _ (display_plan read m args) done Kept h (λ shown is. same)
+  files-kept sources done (requests.ApplyChanges args) h = does-each (range_change m) (apply_plan read m job timestamp args) done Kept h (λ work is. same)
+  files-kept sources done (requests.RemoveChanges args) h = does-each (range_change m) (remove_plan read m job timestamp args) done Kept h (λ work is. same)
   files-kept sources done (requests.StartCommitment args) h = does-each _ (start_plan m job) done Kept h (λ started is. same)
   files-kept sources done requests.EndCommitment h = does-each _ (end_plan m job) done Kept h (λ ended is. same)
   files-kept sources done requests.Commit h = does-each _ (found (job_of job m).level _) done Kept h (λ level is. same)

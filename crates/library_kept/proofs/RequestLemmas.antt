@@ -2,6 +2,7 @@
 use Rattle.std.proofs.Common.{◌≡◌, ℕ, ◌+◌, nat_le, nat_lt, not, length, IsTrue, true, Some, None, IsSome, Result, Ok, List, [], ◌∷◌, slice_get, refl, sym, subst}
 use Rattle.std.specs.Option.{is_some, is_none}
 use Rattle.lawful_states.specs.declared.changes.StatusChange.TheVariants.{Journaled, Unjournaled}
+use Rattle.entry_codec.specs.declared.entries.Entry.{Entry}
 use Rattle.file_model.specs.Positions.{Before, Past, next_from, prior_from, next_equal, prior_equal}
 use Rattle.lock_table.specs.declared.levels.Call.TheVariants.{Position as PositionCall, Unlock}
 use Rattle.member_slots.specs.Member.{records}
@@ -50,7 +51,7 @@ use Rattle.lawful_states.proofs.BaseLemmas.{OpenHolds-alike, OpenHolds-positione
 use Rattle.lawful_states.proofs.FindLemmas.{found-is, member-there}
 use Rattle.lawful_states.proofs.MemberLemmas.{IsThere-is_some}
 use Rattle.lawful_states.specs.Members.{HasMember}
-use Rattle.joint_state.specs.Sound.{IsSound}
+use Rattle.joint_state.specs.Sound.{IsSound, MayBeRead}
 use Rattle.joint_state.specs.Views.{IsMapped, IsView}
 use Rattle.library_kept.proofs.CatalogueLemmas.{with_file-stands, with_logical-stands, member_added-stands, deleted-stands, cleared-stands, reorganized-stands}
 use Rattle.library_kept.proofs.ChangeLemmas.{write-may, update-may, delete-may, write-stands, update-stands, delete-stands}
@@ -178,7 +179,7 @@ changes-equal a b e = cc
 
 -- ---- each request
 
-module _ (s : State) (job timestamp : ℕ) (sound : IsSound s) (running : IsTrue (is_running (job_at job s.jobs))) where
+module _ (s : State) (job timestamp : ℕ) (sound : IsSound s) (running : IsTrue (is_running (job_at job s.jobs))) (read : List Entry) (reads : MayBeRead s read) where
   abbrev m : Memory
   m = memory_of s
 
@@ -199,7 +200,7 @@ module _ (s : State) (job timestamp : ℕ) (sound : IsSound s) (running : IsTrue
   free-there : (status : MemberStatus) (free : IsFree s status) → is_some (member_at status.number s.members) ≡ true
   free-there status free = IsThere-is_some _ (member_at status.number s.members) free.has.there
 
-  pub request-left : (sources : List NamedSource) (done : Change) (request : Request) → change sources s.entries m job timestamp request ≡ Ok done → Stands done.memory
+  pub request-left : (sources : List NamedSource) (done : Change) (request : Request) → change sources read m job timestamp request ≡ Ok done → Stands done.memory
   unfolding change
   request-left sources done (requests.CreatePhysicalFile args) h =
       does-each (create_change m job timestamp args) (create_plan sources m args) done Left h (λ plan is. Stands-last _ _ (with_file-stands m args.file plan stands))
@@ -226,17 +227,17 @@ module _ (s : State) (job timestamp : ℕ) (sound : IsSound s) (running : IsTrue
   request-left sources done requests.ChangeJournal h =
       does-each (attach_change m job timestamp) (attach_plan m) done Left h (λ number is. Stands-journal m _ _ _ _ stands)
   request-left sources done (requests.DeleteReceiver args) h =
-      does-each _ (give_up_plan s.entries m args) done Left h (λ last is. Stands-journal m _ _ _ _ stands)
+      does-each _ (give_up_plan read m args) done Left h (λ last is. Stands-journal m _ _ _ _ stands)
   request-left sources done requests.Checkpoint h =
       does-each (save_change m) (save_plan m) done Left h (λ sequence is. Stands-journal m _ _ _ _ stands)
   request-left sources done (requests.DisplayJournal args) h =
-      does-each _ (display_plan s.entries m args) done Left h (λ shown is. stands)
+      does-each _ (display_plan read m args) done Left h (λ shown is. stands)
   request-left sources done (requests.ApplyChanges args) h =
-      does-each (range_change m) (apply_plan s.entries m job timestamp args) done Left h
-      (λ work is. Stands-last _ _ (range-stands s work sound (apply-may s job timestamp args work sound is)))
+      does-each (range_change m) (apply_plan read m job timestamp args) done Left h
+      (λ work is. Stands-last _ _ (range-stands s work sound (apply-may s read job timestamp args work sound reads is)))
   request-left sources done (requests.RemoveChanges args) h =
-      does-each (range_change m) (remove_plan s.entries m job timestamp args) done Left h
-      (λ work is. Stands-last _ _ (range-stands s work sound (remove-may s job timestamp args work sound is)))
+      does-each (range_change m) (remove_plan read m job timestamp args) done Left h
+      (λ work is. Stands-last _ _ (range-stands s work sound (remove-may s read job timestamp args work sound reads is)))
   request-left sources done (requests.StartCommitment args) h =
       does-each _ (start_plan m job) done Left h (λ started is. Stands-last _ _ (level-stands m job running stands (Some args.level)))
   request-left sources done requests.EndCommitment h =

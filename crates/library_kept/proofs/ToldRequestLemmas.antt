@@ -2,6 +2,7 @@
 use Rattle.std.proofs.Common.{◌≡◌, ℕ, ◌+◌, ◌<◌, length, IsTrue, is_some, Ok, List, [], ◌∷◌, ◌++◌, refl, sym, ◌∙◌, subst, arith}
 use Rattle.std.specs.List.{AllByRecursion}
 use Rattle.entry_codec.specs.declared.entries.Draft.{Draft}
+use Rattle.entry_codec.specs.declared.entries.Entry.{Entry}
 use Rattle.entry_codec.specs.declared.kinds.EntryKind.TheVariants.{FileCreated, FileDeleted, MemberAdded, MemberCleared, MemberReorganized, JournalingStarted, JournalingEnded, NextReceiver, PreviousReceiver, CommitmentStarted, CommitmentEnded}
 use Rattle.entry_codec.specs.declared.kinds.FileKind.TheVariants.{Physical, Logical}
 use Rattle.file_model.specs.Positions.{Before, Past, next_from, prior_from, next_equal, prior_equal}
@@ -36,7 +37,7 @@ use Rattle.lawful_states.proofs.BackLemmas.{CycleGoesBack-of}
 use Rattle.lawful_states.proofs.FileLemmas.{Owns-below}
 use Rattle.journal_model.specs.Rollback.{numbered_from}
 use Rattle.member_slots.specs.Members.{member_of}
-use Rattle.joint_state.specs.Sound.{IsSound}
+use Rattle.joint_state.specs.Sound.{IsSound, MayBeRead}
 use Rattle.joint_state.specs.Told.{IsTold}
 use Rattle.library_kept.proofs.ChangeLemmas.{MayChange, write-may, update-may, delete-may}
 use Rattle.library_kept.proofs.FileKeepLemmas.{KeepsFiles}
@@ -47,7 +48,7 @@ use Rattle.library_kept.proofs.ResultLemmas.{does-each}
 use Rattle.library_kept.proofs.ToldLemmas.{TellsNew, IsBelow, IsPlain, library-plain, end-plain, if_journaled-plain, plain-new, member-new, change-told, start-told, undo_entries-told, end_entries-told}
 use Rattle.library_kept.proofs.WorkLemmas.{apply-may, remove-may}
 
-module _ (s : State) (job timestamp : ℕ) (sound : IsSound s) (running : IsTrue (is_running (job_at job s.jobs))) where
+module _ (s : State) (job timestamp : ℕ) (sound : IsSound s) (running : IsTrue (is_running (job_at job s.jobs))) (read : List Entry) (reads : MayBeRead s read) where
   abbrev m : Memory
   m = memory_of s
 
@@ -93,7 +94,7 @@ module _ (s : State) (job timestamp : ℕ) (sound : IsSound s) (running : IsTrue
         members = subst (AllByRecursion (IsBelow done.memory.next_member)) (sym is) (subst (λ n. AllByRecursion (IsBelow n) (numbered_from k drafts)) (sym same_next) told.1);
       }
 
-  pub request-told : (sources : List NamedSource) (done : Change) (request : Request) → change sources s.entries m job timestamp request ≡ Ok done → Told done
+  pub request-told : (sources : List NamedSource) (done : Change) (request : Request) → change sources read m job timestamp request ≡ Ok done → Told done
   unfolding change
   request-told sources done (requests.CreatePhysicalFile args) h =
       does-each (create_change m job timestamp args) (create_plan sources m args) done Told h
@@ -132,16 +133,16 @@ module _ (s : State) (job timestamp : ℕ) (sound : IsSound s) (running : IsTrue
       does-each (attach_change m job timestamp) (attach_plan m) done Told h
       (λ number is keeps. plain _ (library_draft author (NextReceiver number) ∷ library_draft author (PreviousReceiver s.receivers.attached) ∷ []) refl refl
       (library-plain _ author (NextReceiver number) refl refl, (library-plain _ author (PreviousReceiver s.receivers.attached) refl refl, tt)))
-  request-told sources done (requests.DeleteReceiver args) h = does-each _ (give_up_plan s.entries m args) done Told h (λ last is keeps. silent _ refl refl)
+  request-told sources done (requests.DeleteReceiver args) h = does-each _ (give_up_plan read m args) done Told h (λ last is keeps. silent _ refl refl)
   request-told sources done requests.Checkpoint h = does-each (save_change m) (save_plan m) done Told h (λ sequence is keeps. silent _ refl refl)
-  request-told sources done (requests.DisplayJournal args) h = does-each _ (display_plan s.entries m args) done Told h (λ shown is keeps. silent _ refl refl)
+  request-told sources done (requests.DisplayJournal args) h = does-each _ (display_plan read m args) done Told h (λ shown is keeps. silent _ refl refl)
   request-told sources done (requests.ApplyChanges args) h =
-      does-each (range_change m) (apply_plan s.entries m job timestamp args) done Told h
-      (λ work is keeps. let may = apply-may s job timestamp args work sound is in
+      does-each (range_change m) (apply_plan read m job timestamp args) done Told h
+      (λ work is keeps. let may = apply-may s read job timestamp args work sound reads is in
       member-new s _ (m.last_entry + 1) work.drafts may.name may.file work.range.status.number sound keeps refl refl may.owns may.drafts)
   request-told sources done (requests.RemoveChanges args) h =
-      does-each (range_change m) (remove_plan s.entries m job timestamp args) done Told h
-      (λ work is keeps. let may = remove-may s job timestamp args work sound is in
+      does-each (range_change m) (remove_plan read m job timestamp args) done Told h
+      (λ work is keeps. let may = remove-may s read job timestamp args work sound reads is in
       member-new s _ (m.last_entry + 1) work.drafts may.name may.file work.range.status.number sound keeps refl refl may.owns may.drafts)
   request-told sources done (requests.StartCommitment args) h =
       does-each _ (start_plan m job) done Told h

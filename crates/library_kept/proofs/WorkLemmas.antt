@@ -3,6 +3,7 @@ use Rattle.std.proofs.Common.{◌≡◌, ℕ, ◌+◌, ◌-◌, ◌*◌, ◌≤�
 use Rattle.std.proofs.lemmas.Bool.{ltb-false}
 use Rattle.std.specs.Option.{is_none}
 use Rattle.std.specs.List.{AllByRecursion}
+use Rattle.entry_codec.specs.declared.entries.Entry.{Entry}
 use Rattle.entry_codec.specs.declared.kinds.EntryKind.{EntryKind}
 use Rattle.entry_codec.specs.declared.kinds.EntryKind.TheVariants.{ChangesApplied, ChangesRemoved, CommitCycleStarted, CommitCycleCommitted}
 use Rattle.entry_codec.specs.Placing.{place}
@@ -37,7 +38,7 @@ use Rattle.lawful_states.proofs.BackLemmas.{AllGoBack-unused}
 use Rattle.lawful_states.proofs.LawfulLemmas.{AreOne-with_member}
 use Rattle.journaled_entries.specs.Deposited.{is_of_record}
 use Rattle.joint_state.specs.Told.{MayHavePlace, IsRecordOf, IsTold}
-use Rattle.joint_state.specs.Sound.{IsSound}
+use Rattle.joint_state.specs.Sound.{IsSound, MayBeRead}
 use Rattle.library_kept.proofs.DraftLemmas.{DraftTold, slot_drafts-told}
 use Rattle.library_kept.proofs.ListLemmas.{each-append, each-drop, each-reverse, each-take, each-weaker}
 use Rattle.library_kept.proofs.PlanLemmas.{named-member, same-file}
@@ -126,31 +127,32 @@ record IsRange (s : State) (range : Range) : Type 0 where
   unused : user_of range.status.number (memory_of s) ≡ None
   acts : AllByRecursion (ActFits (fields_of file)) range.acts
 
-range-is : (s : State) (args : JournaledChanges) (first last : RangeEnd) (range : Range) → IsSound s → range_named args first last s.entries (memory_of s) ≡ Ok range → IsRange s range
-range-is s args first last range sound h =
+range-is : (s : State) (read : List Entry) (args : JournaledChanges) (first last : RangeEnd) (range : Range) → IsSound s → MayBeRead s read
+    → range_named args first last read (memory_of s) ≡ Ok range → IsRange s range
+range-is s read args first last range sound reads h =
     let m = memory_of s in
     let left = bind-ok (sequences_left m) _ range h in
     let it = bind-ok (member_of_file args.file args.member m) _ range left.2 in
     let number = it.0.status.number in
-    let from = end_named first number s.entries m in
-    let to = end_named last number s.entries m in
+    let from = end_named first number read m in
+    let to = end_named last number read m in
     let free = bind-ok (unused (user_of number m)) _ range it.2 in
     let journaled = bind-ok (refuse_if (is_none it.0.status.images) (replies.NotJournaled number)) _ range free.2 in
     let there = bind-ok (are_there from to m) _ range journaled.2 in
     let kept = bind-ok (are_kept from m) _ range there.2 in
     let has = named-member s args.file args.member it.0 sound it.1 in
-    let tells = each-weaker (IsTold s.files) (TellsOf (fields_of it.0.file) number) s.entries (λ e told named. told args.file it.0.file number has.owns named) sound.joint.told.records in
-    let before = take (from - first_kept m) s.entries in
-    let between = entries_between from to m s.entries in
-    subst (IsRange s) (ok-equal (range_between it.0.status from to s.entries m) range kept.2) (record {
+    let tells = each-weaker (IsTold s.files) (TellsOf (fields_of it.0.file) number) read (λ e told named. told args.file it.0.file number has.owns named) reads.told in
+    let before = take (from - first_kept m) read in
+    let between = entries_between from to m read in
+    subst (IsRange s) (ok-equal (range_between it.0.status from to read m) range kept.2) (record {
       name = args.file;
       file = it.0.file;
       owns = has.owns;
       unused = none-refused _ (user_of number m) free.0 free.1;
       acts = acts-fit (fields_of it.0.file) number (entry_before None before) between
-          (entry_before-tells (fields_of it.0.file) number None before tt (each-take (TellsOf (fields_of it.0.file) number) (from - first_kept m) s.entries tells))
-          (each-take (TellsOf (fields_of it.0.file) number) (to + 1 - from) (drop (from - first_kept m) s.entries)
-          (each-drop (TellsOf (fields_of it.0.file) number) (from - first_kept m) s.entries tells));
+          (entry_before-tells (fields_of it.0.file) number None before tt (each-take (TellsOf (fields_of it.0.file) number) (from - first_kept m) read tells))
+          (each-take (TellsOf (fields_of it.0.file) number) (to + 1 - from) (drop (from - first_kept m) read)
+          (each-drop (TellsOf (fields_of it.0.file) number) (from - first_kept m) read tells));
     })
 
 -- the slots of a member fit it
@@ -199,25 +201,27 @@ module _ (s : State) (sound : IsSound s) (range : Range) (is : IsRange s range) 
             (slots-fit s is.name is.file range.status.number sound is.owns) (fit d fits.changes);
       })
 
-pub apply-may : (s : State) (job timestamp : ℕ) (args : JournaledChanges) (work : RangeWork) → IsSound s → apply_plan s.entries (memory_of s) job timestamp args ≡ Ok work → MayGo s work
+pub apply-may : (s : State) (read : List Entry) (job timestamp : ℕ) (args : JournaledChanges) (work : RangeWork) → IsSound s → MayBeRead s read
+    → apply_plan read (memory_of s) job timestamp args ≡ Ok work → MayGo s work
 unfolding apply_plan
-apply-may s job timestamp args work sound h =
+apply-may s read job timestamp args work sound reads h =
     let m = memory_of s in
-    let range = bind-ok (range_named args args.from args.to s.entries m) _ work h in
+    let range = bind-ok (range_named args args.from args.to read m) _ work h in
     let did = bind-ok (done_or_refused (apply_range range.0.first range.0.acts (slots_now range.0 m))) _ work range.2 in
-    let is = range-is s args args.from args.to range.0 sound range.1 in
+    let is = range-is s read args args.from args.to range.0 sound reads range.1 in
     let fits = apply_range-fits (fields_of is.file) range.0.first range.0.acts (slots_now range.0 m) did.0 is.acts
     (slots-fit s is.name is.file range.0.status.number sound is.owns) (done-is _ did.0 did.1) in
     may-go s sound range.0 is (author_of m job timestamp) (λ d. ChangesApplied d.first d.last (length d.changes)) (λ d. given_forward d.changes) (λ d. refl) (λ d. refl)
     (λ d all. forward-fits (fields_of is.file) d.changes all) did.0 work fits did.2
 
-pub remove-may : (s : State) (job timestamp : ℕ) (args : JournaledChanges) (work : RangeWork) → IsSound s → remove_plan s.entries (memory_of s) job timestamp args ≡ Ok work → MayGo s work
+pub remove-may : (s : State) (read : List Entry) (job timestamp : ℕ) (args : JournaledChanges) (work : RangeWork) → IsSound s → MayBeRead s read
+    → remove_plan read (memory_of s) job timestamp args ≡ Ok work → MayGo s work
 unfolding remove_plan
-remove-may s job timestamp args work sound h =
+remove-may s read job timestamp args work sound reads h =
     let m = memory_of s in
-    let range = bind-ok (range_named args args.to args.from s.entries m) _ work h in
+    let range = bind-ok (range_named args args.to args.from read m) _ work h in
     let did = bind-ok (done_or_refused (remove_range range.0.first range.0.acts (slots_now range.0 m))) _ work range.2 in
-    let is = range-is s args args.to args.from range.0 sound range.1 in
+    let is = range-is s read args args.to args.from range.0 sound reads range.1 in
     let fits = remove_range-fits (fields_of is.file) range.0.first range.0.acts (slots_now range.0 m) did.0 is.acts
     (slots-fit s is.name is.file range.0.status.number sound is.owns) (done-is _ did.0 did.1) in
     may-go s sound range.0 is (author_of m job timestamp) (λ d. ChangesRemoved d.first d.last (length d.changes)) (λ d. given_back d.changes) (λ d. refl) (λ d. refl)

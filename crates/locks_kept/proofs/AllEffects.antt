@@ -120,7 +120,7 @@ change-effect sources entries m job timestamp (request.EndJob args) lawful = end
 
 pub effect-of : (s : State) (done : Change) (does : Does s done) → Effect (memory_of s) does.job done.memory
 effect-of s done does =
-    IfOk-at_ok (Leaves (memory_of s) does.job) does.does (change-effect does.sources s.entries (memory_of s) does.job does.timestamp does.request lawful).holds
+    IfOk-at_ok (Leaves (memory_of s) does.job) does.does (change-effect does.sources does.read (memory_of s) does.job does.timestamp does.request lawful).holds
   where
     lawful : IsLawful (memory_of s)
     lawful = record { below = does.sound.library.numbers; based = does.sound.library.bases; opens = does.sound.library.opens }

@@ -78,20 +78,20 @@ slots-given number slots members there = ap (λ (m : MemberState). m.slots) (mem
 -- ---- removing and applying
 
 module _ (s : State) (args : JournaledChanges) (done : Change) where
-  removed_members : (r : IsRemoved s args done) → (after s done).members ≡ given_to r.range.status.number r.walk.slots s.members
+  removed_members : (r : IsRemoved s s.entries args done) → (after s done).members ≡ given_to r.range.status.number r.walk.slots s.members
   removed_members r =
       ap (λ (c : Change). (after s c).members) (sym r.is)
       ∙ ap (λ (w : RangeWork). (with_range w.range w.done (memory_of s)).members) (sym r.makes)
 
-  applied_members : (r : IsApplied s args done) → (after s done).members ≡ given_to r.range.status.number r.walk.slots s.members
+  applied_members : (r : IsApplied s s.entries args done) → (after s done).members ≡ given_to r.range.status.number r.walk.slots s.members
   applied_members r =
       ap (λ (c : Change). (after s c).members) (sym r.is)
       ∙ ap (λ (w : RangeWork). (with_range w.range w.done (memory_of s)).members) (sym r.makes)
 
-  removed_reply : (r : IsRemoved s args done) → done.reply ≡ replies.Range r.walk.first r.walk.last (length r.walk.changes)
+  removed_reply : (r : IsRemoved s s.entries args done) → done.reply ≡ replies.Range r.walk.first r.walk.last (length r.walk.changes)
   removed_reply r = ap (λ (c : Change). c.reply) (sym r.is) ∙ ap (λ (w : RangeWork). replies.Range w.done.first w.done.last (length w.done.changes)) (sym r.makes)
 
-  applied_reply : (r : IsApplied s args done) → done.reply ≡ replies.Range r.walk.first r.walk.last (length r.walk.changes)
+  applied_reply : (r : IsApplied s s.entries args done) → done.reply ≡ replies.Range r.walk.first r.walk.last (length r.walk.changes)
   applied_reply r = ap (λ (c : Change). c.reply) (sym r.is) ∙ ap (λ (w : RangeWork). replies.Range w.done.first w.done.last (length w.done.changes)) (sym r.makes)
 
   -- slots of the member after it, and of the others
@@ -104,7 +104,7 @@ module _ (s : State) (args : JournaledChanges) (done : Change) where
   apart number other slots differs is =
       ap (member_at other) is ∙ item_at-with_item_other other number (record (member_of number s.members) { slots = slots }) s.members differs
 
-  back : IsSound s → IsRemoved s args done → Moves s args done to_before
+  back : IsSound s → IsRemoved s s.entries args done → Moves s args done to_before
   back sound r =
       let number = r.range.status.number in
       let slots = slots_now r.range (memory_of s) in
@@ -134,7 +134,7 @@ module _ (s : State) (args : JournaledChanges) (done : Change) where
         };
       }
 
-  forward : IsSound s → IsApplied s args done → Moves s args done to_end
+  forward : IsSound s → IsApplied s s.entries args done → Moves s args done to_end
   forward sound r =
       let number = r.range.status.number in
       let slots = slots_now r.range (memory_of s) in
@@ -201,8 +201,8 @@ given-twice number first second members there same =
     ∙ ap (λ (slots : List Slot). with_member number (record (member_of number members) { slots = slots }) members) same
     ∙ with_item-same number (member_of number members) members (at-member_of number members there)
 
-module _ (s : State) (args : JournaledChanges) (removal application : Change) (sound : IsSound s) (r : IsRemoved s args removal)
-    (a : IsApplied (after s removal) (again args r.walk.first r.walk.last) application) where
+module _ (s : State) (args : JournaledChanges) (removal application : Change) (sound : IsSound s) (r : IsRemoved s s.entries args removal)
+    (a : IsApplied (after s removal) (after s removal).entries (again args r.walk.first r.walk.last) application) where
   files_are : (after s removal).files ≡ s.files
   files_are = ap (λ (c : Change). (after s c).files) (sym r.is) ∙ ap (λ (w : RangeWork). (with_range w.range w.done (memory_of s)).files) (sym r.makes)
 

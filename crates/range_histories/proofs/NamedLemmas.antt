@@ -4,6 +4,7 @@ use Rattle.std.specs.Option.{is_none}
 use Rattle.std.proofs.lemmas.List.{length-take-le, length-drop}
 use Rattle.std.proofs.lemmas.Bool.{or_parts}
 use Rattle.std.proofs.lemmas.Bool.Decides.{nat_tests}
+use Rattle.entry_codec.specs.declared.entries.Entry.{Entry}
 use Rattle.journal_model.specs.Acts.{Act, acts}
 use Rattle.library_model.specs.Named.{Named, named, same_name}
 use Rattle.library_model.specs.declared.requests.JournaledChanges.{JournaledChanges}
@@ -48,48 +49,49 @@ named-has_number name (entry ∷ members) status h = has_number-cons status.numb
   at true e more = let same : entry.1 ≡ status = cc in let own : entry.1.number ≡ status.number = ap (λ (s : MemberStatus). s.number) same in grind (arith, nat_tests)
   at false e more = let rest = more e in grind (arith, nat_tests)
 
--- ---- the range
+-- ---- the range, in as many entries as are kept
 
-pub record IsNamed (args : JournaledChanges) (s : State) (first last : RangeEnd) (range : Range) : Type 0 where
+pub record IsNamed (args : JournaledChanges) (s : State) (read : List Entry) (first last : RangeEnd) (range : Range) : Type 0 where
   pub file : FileState
   pub there : named args.file s.files ≡ Some file
   pub has : named args.member file.members ≡ Some range.status
   pub unused : user_of range.status.number (memory_of s) ≡ None
   pub journaled : is_none range.status.images ≡ false
   pub high : ℕ
-  pub begins : range.first ≡ end_named first range.status.number s.entries (memory_of s)
-  pub ends : high ≡ end_named last range.status.number s.entries (memory_of s)
+  pub begins : range.first ≡ end_named first range.status.number read (memory_of s)
+  pub ends : high ≡ end_named last range.status.number read (memory_of s)
   pub bounds : IsRange range.first high (memory_of s)
   pub kept : s.gone + 1 ≤ range.first
   pub front : List Act
   pub rest : List Act
-  pub part : IsPart (acts range.status.number None s.entries) s.gone range.first high front range.acts rest
+  pub part : IsPart (acts range.status.number None read) s.gone range.first high front range.acts rest
 
-cut-is_part : (s : State) (status : MemberStatus) (first high : ℕ) → IsRange first high (memory_of s) → s.gone + 1 ≤ first
-    → IsPart (acts status.number None s.entries) s.gone first high (acts status.number None (take (first - (s.gone + 1)) s.entries)) (range_between status first high s.entries (memory_of s)).acts
-    (rest_of status.number (first - (s.gone + 1)) (high + 1 - first) s.entries)
-cut-is_part s status first high r kept =
+cut-is_part : (s : State) (read : List Entry) (status : MemberStatus) (first high : ℕ) → length read ≡ length s.entries → IsRange first high (memory_of s) → s.gone + 1 ≤ first
+    → IsPart (acts status.number None read) s.gone first high (acts status.number None (take (first - (s.gone + 1)) read)) (range_between status first high read (memory_of s)).acts
+    (rest_of status.number (first - (s.gone + 1)) (high + 1 - first) read)
+cut-is_part s read status first high count r kept =
     let k = first - (s.gone + 1) in
     let n = high + 1 - first in
-    let before : length (take k s.entries) ≡ k = length-take-le k s.entries (omega (arith, r.ordered, r.within, kept)) in
-    let left : length (drop k s.entries) ≡ length s.entries - k = length-drop k s.entries in
-    let inside : length (take n (drop k s.entries)) ≡ n = length-take-le n (drop k s.entries) (omega (arith, left, r.ordered, r.within, kept)) in
-    let front = length-acts status.number None (take k s.entries) in
-    let part = length-acts status.number (prior_at k s.entries) (take n (drop k s.entries)) in
+    let before : length (take k read) ≡ k = length-take-le k read (omega (arith, r.ordered, r.within, kept, count)) in
+    let left : length (drop k read) ≡ length read - k = length-drop k read in
+    let inside : length (take n (drop k read)) ≡ n = length-take-le n (drop k read) (omega (arith, left, r.ordered, r.within, kept, count)) in
+    let front = length-acts status.number None (take k read) in
+    let part = length-acts status.number (prior_at k read) (take n (drop k read)) in
     record {
-      is = acts-cut status.number k n s.entries;
+      is = acts-cut status.number k n read;
       begins = omega (arith, front, before, kept);
       ends = omega (arith, part, inside, r.ordered);
     }
 
-pub range_named-ok : (args : JournaledChanges) (s : State) (first last : RangeEnd) (range : Range) → range_named args first last s.entries (memory_of s) ≡ Ok range → IsNamed args s first last range
-range_named-ok args s first last range h =
+pub range_named-ok : (args : JournaledChanges) (s : State) (read : List Entry) (first last : RangeEnd) (range : Range) → length read ≡ length s.entries
+    → range_named args first last read (memory_of s) ≡ Ok range → IsNamed args s read first last range
+range_named-ok args s read first last range count h =
     let m = memory_of s in
     let a = bind-ok (sequences_left m) _ range h in
     let b = bind-ok (member_of_file args.file args.member m) _ range a.2 in
     let number = b.0.status.number in
-    let from = end_named first number s.entries m in
-    let to = end_named last number s.entries m in
+    let from = end_named first number read m in
+    let to = end_named last number read m in
     let c = bind-ok (unused (user_of number m)) _ range b.2 in
     let d = bind-ok (refuse_if (is_none b.0.status.images) (replies.NotJournaled number)) _ range c.2 in
     let e = bind-ok (are_there from to m) _ range d.2 in
@@ -99,7 +101,7 @@ range_named-ok args s first last range h =
     let images = refuse_if-ok (is_none b.0.status.images) _ d.0 d.1 in
     let bounds = is_range from to m (refuse_if-ok (is_no_range from to m) _ e.0 e.1) in
     let kept = ltb-not from (first_kept m) (refuse_if-ok (nat_lt from (first_kept m)) _ f.0 f.1) in
-    let is : range_between b.0.status from to s.entries m ≡ range = cc in
+    let is : range_between b.0.status from to read m ≡ range = cc in
     by b.0 (record {
       file = b.0.file;
       there = found.0;
@@ -111,14 +113,14 @@ range_named-ok args s first last range h =
       ends = refl;
       bounds = bounds;
       kept = kept;
-      front = acts number None (take (from - (s.gone + 1)) s.entries);
-      rest = rest_of number (from - (s.gone + 1)) (to + 1 - from) s.entries;
-      part = cut-is_part s b.0.status from to bounds kept;
+      front = acts number None (take (from - (s.gone + 1)) read);
+      rest = rest_of number (from - (s.gone + 1)) (to + 1 - from) read;
+      part = cut-is_part s read b.0.status from to count bounds kept;
     }) is
   where
     by : (it : FoundMember)
-        → IsNamed args s first last (range_between it.status (end_named first it.status.number s.entries (memory_of s)) (end_named last it.status.number s.entries (memory_of s)) s.entries
+        → IsNamed args s read first last (range_between it.status (end_named first it.status.number read (memory_of s)) (end_named last it.status.number read (memory_of s)) read
         (memory_of s))
-        → range_between it.status (end_named first it.status.number s.entries (memory_of s)) (end_named last it.status.number s.entries (memory_of s)) s.entries (memory_of s) ≡ range
-        → IsNamed args s first last range
-    by it named is = subst (IsNamed args s first last) is named
+        → range_between it.status (end_named first it.status.number read (memory_of s)) (end_named last it.status.number read (memory_of s)) read (memory_of s) ≡ range
+        → IsNamed args s read first last range
+    by it named is = subst (IsNamed args s read first last) is named

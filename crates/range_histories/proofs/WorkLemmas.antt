@@ -1,6 +1,7 @@
 -- What APYJRNCHG and RMVJRNCHG did where they weren't refused: the part of the range that was gone through, its sequences and the slots after it.
 use Rattle.std.proofs.Common.{◌≡◌, ℕ, ◌-◌, ◌≤◌, nat_lt, true, List, ◌++◌, length, take, Result, Ok, Err, refl, sym, ap, ◌∙◌, arith, append_assoc}
 use Rattle.std.proofs.lemmas.List.{take-append-drop, take_all, length-take-le, length-drop, length-append}
+use Rattle.entry_codec.specs.declared.entries.Entry.{Entry}
 use Rattle.entry_codec.specs.declared.kinds.EntryKind.TheVariants.{ChangesApplied, ChangesRemoved}
 use Rattle.member_slots.specs.declared.slot.Slot.{Slot}
 use Rattle.journal_model.specs.Acts.{Act}
@@ -15,6 +16,7 @@ use Rattle.library_model.specs.declared.requests.Request.TheVariants.{ApplyChang
 use Rattle.library_model.specs.declared.replies.Reply.{Reply}
 use Rattle.library_model.specs.declared.replies.Reply.TheVariants as replies
 use Rattle.library_model.specs.declared.replies.LimitKind.TheVariants.{LibraryBytes, BlockBytes}
+use Rattle.library_model.specs.declared.sources.NamedSource.{NamedSource}
 use Rattle.library_steps.specs.declared.limits.TheConstants.{MOST_LIBRARY_BYTES, MOST_BLOCK_BYTES}
 use Rattle.library_steps.specs.State.{State, Memory, memory_of}
 use Rattle.library_steps.specs.Change.{Change, deposited}
@@ -72,22 +74,24 @@ abbrev pub remove_work : State → (job timestamp : ℕ) → Range → RangeDone
 remove_work s job timestamp range done =
     work_of (author_of (memory_of s) job timestamp) (λ d. ChangesRemoved d.first d.last (length d.changes)) (λ d. given_back d.changes) range (memory_of s) done
 
-pub apply_plan-ok : (s : State) (job timestamp : ℕ) (args : JournaledChanges) (work : RangeWork) → apply_plan s.entries (memory_of s) job timestamp args ≡ Ok work
-    → IsPlanned (range_named args args.from args.to s.entries (memory_of s)) (applied_range s) (apply_work s job timestamp) work
+pub apply_plan-ok : (s : State) (read : List Entry) (job timestamp : ℕ) (args : JournaledChanges) (work : RangeWork) → apply_plan read (memory_of s) job timestamp args ≡ Ok work
+    → IsPlanned (range_named args args.from args.to read (memory_of s)) (applied_range s) (apply_work s job timestamp) work
 unfolding apply_plan
-apply_plan-ok s job timestamp args work h = plan-ok (range_named args args.from args.to s.entries (memory_of s)) (applied_range s) (apply_work s job timestamp) (memory_of s) work h
+apply_plan-ok s read job timestamp args work h =
+    plan-ok (range_named args args.from args.to read (memory_of s)) (applied_range s) (apply_work s job timestamp) (memory_of s) work h
 
-pub remove_plan-ok : (s : State) (job timestamp : ℕ) (args : JournaledChanges) (work : RangeWork) → remove_plan s.entries (memory_of s) job timestamp args ≡ Ok work
-    → IsPlanned (range_named args args.to args.from s.entries (memory_of s)) (removed_range s) (remove_work s job timestamp) work
+pub remove_plan-ok : (s : State) (read : List Entry) (job timestamp : ℕ) (args : JournaledChanges) (work : RangeWork) → remove_plan read (memory_of s) job timestamp args ≡ Ok work
+    → IsPlanned (range_named args args.to args.from read (memory_of s)) (removed_range s) (remove_work s job timestamp) work
 unfolding remove_plan
-remove_plan-ok s job timestamp args work h = plan-ok (range_named args args.to args.from s.entries (memory_of s)) (removed_range s) (remove_work s job timestamp) (memory_of s) work h
+remove_plan-ok s read job timestamp args work h =
+    plan-ok (range_named args args.to args.from read (memory_of s)) (removed_range s) (remove_work s job timestamp) (memory_of s) work h
 
--- ---- requests that were done
+-- ---- requests that were done, whatever was read as the entries
 
-pub record IsApplied (s : State) (args : JournaledChanges) (done : Change) : Type 0 where
+pub record IsApplied (s : State) (read : List Entry) (args : JournaledChanges) (done : Change) : Type 0 where
   pub work : RangeWork
   pub range : Range
-  pub named : IsNamed args s args.from args.to range
+  pub named : IsNamed args s read args.from args.to range
   pub walk : RangeDone
   pub walked : applied_range s range ≡ Ok walk
   pub job : ℕ
@@ -95,10 +99,10 @@ pub record IsApplied (s : State) (args : JournaledChanges) (done : Change) : Typ
   pub makes : apply_work s job timestamp range walk ≡ work
   pub is : range_change (memory_of s) work ≡ done
 
-pub record IsRemoved (s : State) (args : JournaledChanges) (done : Change) : Type 0 where
+pub record IsRemoved (s : State) (read : List Entry) (args : JournaledChanges) (done : Change) : Type 0 where
   pub work : RangeWork
   pub range : Range
-  pub named : IsNamed args s args.to args.from range
+  pub named : IsNamed args s read args.to args.from range
   pub walk : RangeDone
   pub walked : removed_range s range ≡ Ok walk
   pub job : ℕ
@@ -106,41 +110,48 @@ pub record IsRemoved (s : State) (args : JournaledChanges) (done : Change) : Typ
   pub makes : remove_work s job timestamp range walk ≡ work
   pub is : range_change (memory_of s) work ≡ done
 
-pub is_applied : (s : State) (args : JournaledChanges) (done : Change) → IsDone s (ApplyChanges args) done → IsApplied s args done
+pub read-applied : (s : State) (read : List Entry) (args : JournaledChanges) (done : Change) → length read ≡ length s.entries → (sources : List NamedSource) (job timestamp : ℕ)
+    → change sources read (memory_of s) job timestamp (ApplyChanges args) ≡ Ok done → IsApplied s read args done
 unfolding change
-is_applied s args done d =
-    let a = does-ok (range_change (memory_of s)) (apply_plan s.entries (memory_of s) d.job d.timestamp args) done d.does in
-    let p = apply_plan-ok s d.job d.timestamp args a.0 a.1 in
+read-applied s read args done count sources job timestamp h =
+    let a = does-ok (range_change (memory_of s)) (apply_plan read (memory_of s) job timestamp args) done h in
+    let p = apply_plan-ok s read job timestamp args a.0 a.1 in
     record {
       work = a.0;
       range = p.range;
-      named =
-          range_named-ok args s args.from args.to p.range p.is_named;
+      named = range_named-ok args s read args.from args.to p.range count p.is_named;
       walk = p.done;
       walked = p.walked;
-      job = d.job;
-      timestamp = d.timestamp;
+      job = job;
+      timestamp = timestamp;
       makes = p.is;
       is = a.2;
     }
 
-pub is_removed : (s : State) (args : JournaledChanges) (done : Change) → IsDone s (RemoveChanges args) done → IsRemoved s args done
+pub read-removed : (s : State) (read : List Entry) (args : JournaledChanges) (done : Change) → length read ≡ length s.entries → (sources : List NamedSource) (job timestamp : ℕ)
+    → change sources read (memory_of s) job timestamp (RemoveChanges args) ≡ Ok done → IsRemoved s read args done
 unfolding change
-is_removed s args done d =
-    let a = does-ok (range_change (memory_of s)) (remove_plan s.entries (memory_of s) d.job d.timestamp args) done d.does in
-    let p = remove_plan-ok s d.job d.timestamp args a.0 a.1 in
+read-removed s read args done count sources job timestamp h =
+    let a = does-ok (range_change (memory_of s)) (remove_plan read (memory_of s) job timestamp args) done h in
+    let p = remove_plan-ok s read job timestamp args a.0 a.1 in
     record {
       work = a.0;
       range = p.range;
-      named =
-          range_named-ok args s args.to args.from p.range p.is_named;
+      named = range_named-ok args s read args.to args.from p.range count p.is_named;
       walk = p.done;
       walked = p.walked;
-      job = d.job;
-      timestamp = d.timestamp;
+      job = job;
+      timestamp = timestamp;
       makes = p.is;
       is = a.2;
     }
+
+-- its own entries
+pub is_applied : (s : State) (args : JournaledChanges) (done : Change) → IsDone s (ApplyChanges args) done → IsApplied s s.entries args done
+is_applied s args done d = read-applied s s.entries args done refl d.sources d.job d.timestamp d.does
+
+pub is_removed : (s : State) (args : JournaledChanges) (done : Change) → IsDone s (RemoveChanges args) done → IsRemoved s s.entries args done
+is_removed s args done d = read-removed s s.entries args done refl d.sources d.job d.timestamp d.does
 
 -- ---- the part that was gone through
 

@@ -1,14 +1,16 @@
 -- What each answered request keeps, each legal history keeps.
-use Rattle.std.proofs.Common.{◌≡◌, ℕ, ◌⊎◌, inl, inr, IsTrue, List, [], ◌∷◌, Result, Ok, Err, refl, sym, ap, subst}
+use Rattle.std.proofs.Common.{◌≡◌, ℕ, inl, inr, IsTrue, List, [], ◌∷◌, Result, Ok, Err, refl, sym, ap, subst}
+use Rattle.entry_codec.specs.declared.entries.Entry.{Entry}
 use Rattle.library_model.specs.declared.requests.Request.{Request}
 use Rattle.library_model.specs.declared.replies.Reply.{Reply}
 use Rattle.library_model.specs.declared.calls.Call.{Call}
 use Rattle.library_model.specs.declared.sources.NamedSource.{NamedSource}
 use Rattle.library_steps.specs.State.{State, memory_of, job_at}
 use Rattle.library_steps.specs.Change.{Change, changed}
-use Rattle.library_steps.specs.Step.{change, step, MayAnswer}
+use Rattle.library_steps.specs.Step.{change, MayAnswer}
 use Rattle.library_steps.specs.History.{is_running, Outcome, Standing, Failed, Comes, Runs}
-use Rattle.joint_state.specs.Sound.{IsSound, Does, after, IsKept}
+use Rattle.joint_state.specs.Sound.{IsSound, Does, MayAnswerReading, MayBeRead, after, IsKept}
+use Rattle.joint_state.proofs.ReadLemmas.{own-read}
 
 -- the state after an answer, by whether there was a refusal
 changed-sound : (s t : State) (reply : Reply) (r : Result Change Reply) → IsSound s → ((done : Change) → r ≡ Ok done → IsSound (after s done))
@@ -26,12 +28,25 @@ abbrev pub AnswersStaySound : Type 0
 AnswersStaySound = (sources : List NamedSource) (s t : State) (job timestamp : ℕ) (request : Request) (reply : Reply) → IsSound s → IsTrue (is_running (job_at job s.jobs))
     → MayAnswer sources s job timestamp request reply t → IsSound t
 
-pub answer-sound : IsKept IsSound → AnswersStaySound
-answer-sound kept sources s t job timestamp request reply sound running (inl is) =
-    changed-sound s t reply (change sources s.entries (memory_of s) job timestamp request) sound
-    (λ done does. kept s done (record { sound = sound; sources = sources; job = job; timestamp = timestamp; request = request; running = running; does = does }))
+-- so does it whatever the library may have read of its journal
+abbrev pub ReadingsStaySound : Type 0
+ReadingsStaySound = (sources : List NamedSource) (read : List Entry) (s t : State) (job timestamp : ℕ) (request : Request) (reply : Reply) → IsSound s → MayBeRead s read
+    → IsTrue (is_running (job_at job s.jobs)) → MayAnswerReading sources read s job timestamp request reply t → IsSound t
+
+pub reading-sound : IsKept IsSound → ReadingsStaySound
+reading-sound kept sources read s t job timestamp request reply sound reads running (inl is) =
+    changed-sound s t reply (change sources read (memory_of s) job timestamp request) sound
+    (λ done does.
+    let d : Does s done =
+    record { sound = sound; sources = sources; job = job; timestamp = timestamp; request = request; running = running; read = read; reads = reads; does = does }
+    in
+    kept s done d)
     is
-answer-sound kept sources s t job timestamp request reply sound running (inr same) = subst IsSound (sym same.0) sound
+reading-sound kept sources read s t job timestamp request reply sound reads running (inr same) = subst IsSound (sym same.0) sound
+
+-- it may have read its own entries
+pub answer-sound : IsKept IsSound → AnswersStaySound
+answer-sound kept sources s t job timestamp request reply sound running may = reading-sound kept sources s.entries s t job timestamp request reply sound (own-read s sound) running may
 
 module _ (answers : AnswersStaySound) (sources : List NamedSource) where
   comes-sound : (s : State) (mid : Outcome) (call : Call) → IsSound s → IsTrue (is_running (job_at call.job s.jobs)) → Comes sources s call mid → IsSoundAt mid

@@ -3,6 +3,7 @@
 #![tactic(auto)]
 
 ghost use Rattle.std.specs.Prelude.{◌≡◌, ℕ, IsTrue, List};
+ghost use Rattle.entry_codec.specs.declared.entries.Entry.{Entry};
 ghost use Rattle.library_model.specs.declared.calls.Call.{Call};
 ghost use Rattle.library_model.specs.declared.sources.NamedSource.{NamedSource};
 ghost use Rattle.library_model.specs.declared.requests.JournaledChanges.{JournaledChanges};
@@ -14,7 +15,7 @@ ghost use Rattle.library_steps.specs.State.{State, begun, empty_library, job_at}
 ghost use Rattle.library_steps.specs.Change.{Change};
 ghost use Rattle.library_steps.specs.History.{is_running};
 ghost use Rattle.library_steps.specs.Step.{MayAnswer};
-ghost use Rattle.joint_state.specs.Sound.{IsSound, after};
+ghost use Rattle.joint_state.specs.Sound.{IsSound, MayAnswerReading, MayBeRead, after};
 ghost use Rattle.range_histories.specs.Ranges.{IsDone, Moves, IsAgain, to_before, to_end, again};
 ghost use Rattle.sound_histories.specs.Reached.{IsReached};
 
@@ -27,11 +28,14 @@ use range_histories::{
 };
 
 /// A library with nothing in it is sound, whichever jobs begin in it, and whatever may be answered to a job that runs leaves a sound
-/// library sound.
+/// library sound, also where other entries of the journal were read than were deposited, as long as they may be read.
 pub fn each_call_leaves_a_sound_library()
     ensures begun { (names : List (List ℕ)) → IsSound (begun empty_library names) }
     ensures called { (sources : List NamedSource) (old new : State) (job timestamp : ℕ) (request : Request) (reply : Reply) → IsSound old
         → IsTrue (is_running (job_at job old.jobs)) → MayAnswer sources old job timestamp request reply new → IsSound new }
+    ensures reading { (sources : List NamedSource) (read : List Entry) (old new : State) (job timestamp : ℕ) (request : Request) (reply : Reply)
+        → IsSound old → MayBeRead old read → IsTrue (is_running (job_at job old.jobs))
+        → MayAnswerReading sources read old job timestamp request reply new → IsSound new }
 {
     empty_library_is_sound();
     library_is_kept();
