@@ -1,5 +1,6 @@
 -- Blocks under keys: which one is found, and what stays where one is used or put.
-use Rattle.std.proofs.Common.{◌≡◌, ℕ, ◌-◌, ◌||◌, Bool, true, false, IsTrue, cond, if◌then◌else◌, nat_eq, List, [], ◌∷◌, take, zero, suc, Contains, Option, Some, None, is_some, IsSome, IfNone, Result, Ok, Err, OnOk, OnErr, refl, sym, ◌∙◌, ap, subst}
+use Rattle.std.proofs.Common.{◌≡◌, ℕ, ◌-◌, ◌||◌, Bool, true, false, IsTrue, cond, if◌then◌else◌, nat_eq, List, [], ◌∷◌, take, zero, suc, Contains, Option, Some, None, is_some, Result, Ok, Err, OnOk, refl, sym, ◌∙◌, ap, subst}
+use Rattle.std.specs.Prelude.{IfNone, IsSome, OnErr}
 use Rattle.std.specs.List.{AllByRecursion, IsDistinct}
 use Rattle.std.specs.Map.{keys_of, lookup, lookup_entry, remove_entry, values_of}
 use Rattle.std.specs.Borrow.{Bor}
@@ -114,7 +115,8 @@ module _ (test : ℕ → Bool) where
 -- ---- one that is put
 
 all_take : (P : ℕ × List Entry → Type 0) (n : ℕ) (es : List (ℕ × List Entry)) → AllByRecursion P es → AllByRecursion P (take n es)
-all_take P zero es all = tt
+all_take P zero [] all = all
+all_take P zero (e ∷ es) all = tt
 all_take P (suc n) [] all = all
 all_take P (suc n) (e ∷ es) all = (all.0, all_take P n es all.1)
 

@@ -1,14 +1,16 @@
 -- A book holds one list of entries, so that what is said of the journal before a call that changes nothing is so behind it.
-use Rattle.std.proofs.Common.{◌≡◌, ℕ, ◌+◌, ◌≤◌, List, [], ◌∷◌, ◌++◌, length, refl, sym, ◌∙◌, ap, subst}
+use Rattle.std.proofs.Common.{◌≡◌, ℕ, ◌+◌, ◌≤◌, ◌<◌, List, [], ◌∷◌, ◌++◌, length, refl, sym, ◌∙◌, ap, subst}
 use Rattle.std.proofs.Math.Logic.{∥∥₁_elim}
-use Rattle.std.specs.Coded.{Coded-set, coded_list, le_prop, ×_prop}
+use Rattle.std.specs.Coded.{Coded-set, coded_list, le_prop}
 use Rattle.std.specs.List.{AllByRecursion-prop}
+use mathlib.Core.HLevel.{×₃_prop}
 use Rattle.store_model.specs.Disk.{Disk, Stays}
 use Rattle.entry_codec.specs.contracts.entries.Entry.{the_row}
 use Rattle.entry_codec.specs.declared.entries.Entry.{Entry}
 use Rattle.receiver_chain.proofs.Switches.{chained_same}
 use Rattle.journal_book.specs.Book.{BookState, Holds, IsHeld}
 use Rattle.journal_book.specs.Kept.{SpellEntries}
+use Rattle.journal_book.specs.Reads.{between}
 use Rattle.journal_book.proofs.Deposits.{stays_holds}
 use Rattle.journal_book.proofs.Reading.{one_block, one_list}
 use Rattle.block_cache.specs.Cached.{AreStretches, IsStretch}
@@ -28,7 +30,11 @@ one_journal book entries other disk holds also =
 
 stretch_prop : (first : ℕ) (entries block : List Entry) → IsProp (IsStretch first entries block)
 stretch_prop first entries [] = λ p q. absurd p
-stretch_prop first entries (e ∷ more) = ×_prop le_prop (×_prop le_prop (Coded-set (coded_list the_row.coded) _ _))
+stretch_prop first entries (e ∷ more) =
+    let whole = between first e.sequence (e.sequence + length more) entries in
+    let same : IsProp (e ∷ more ≡ whole) = Coded-set (coded_list the_row.coded) (e ∷ more) whole in
+    let shape : IsProp ((first ≤ e.sequence) × (e.sequence + length more < first + length entries) × (e ∷ more ≡ whole)) = ×₃_prop le_prop le_prop same in
+    shape
 
 pub stretches_again : (book : BookState) (blocks : List (List Entry)) (old new : Disk) → Stays old new → IsHeld book old → ((all : List Entry) → Holds book all old → AreStretches book.first all blocks) → (all : List Entry) → Holds book all new → AreStretches book.first all blocks
 stretches_again book blocks old new stays held cached all holds =

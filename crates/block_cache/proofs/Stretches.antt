@@ -18,12 +18,18 @@ between_on first lo r s xs from mid upto =
     let moved : drop n rest ≡ drop (r + 1 - first) xs = drop-drop n (lo - first) xs ∙ ap (λ (k : ℕ). drop k xs) (omega (arith, from, mid)) in
     ap (λ (l : List Entry). take n rest ++ take m l) (sym moved) ∙ sym (take-add n m rest) ∙ ap (λ (k : ℕ). take k rest) (omega (arith, mid, upto))
 
+take_none : (xs : List Entry) → take 0 xs ≡ []
+take_none [] = refl
+take_none (x ∷ xs) = refl
+
 -- none that ends before it begins
 pub between_none : (first lo hi : ℕ) (xs : List Entry) → hi < lo → between first lo hi xs ≡ []
-between_none first lo hi xs past = ap (λ (k : ℕ). take k (drop (lo - first) xs)) (omega (arith, past))
+between_none first lo hi xs past =
+    let none : hi + 1 - lo ≡ 0 = omega (arith, past) in
+    ap (λ (k : ℕ). take k (drop (lo - first) xs)) none ∙ take_none (drop (lo - first) xs)
 
 take_front : (m n : ℕ) (xs : List Entry) → m ≤ n → take m (take n xs) ≡ take m xs
-take_front zero n xs within = refl
+take_front zero n xs within = take_none (take n xs) ∙ sym (take_none xs)
 take_front (suc m) zero xs within = absurd (omega (arith, within))
 take_front (suc m) (suc n) [] within = refl
 take_front (suc m) (suc n) (x ∷ xs) within = ap (λ (l : List Entry). x ∷ l) (take_front m n xs (omega (arith, within)))
@@ -31,7 +37,8 @@ take_front (suc m) (suc n) (x ∷ xs) within = ap (λ (l : List Entry). x ∷ l)
 -- a part of a front is a part of the list
 part : (m j n : ℕ) (xs : List Entry) → j + m ≤ n → take m (drop j (take n xs)) ≡ take m (drop j xs)
 part m j n xs within =
-    ap (λ (k : ℕ). take m (drop j (take k xs))) (omega (arith, within)) ∙ ap (λ (l : List Entry). take m l) (drop-take j (n - j) xs) ∙ take_front m (n - j) (drop j xs) (omega (arith, within))
+    let split : n ≡ j + (n - j) = omega (arith, within) in
+    ap (λ (k : ℕ). take m (drop j (take k xs))) split ∙ ap (λ (l : List Entry). take m l) (drop-take j (n - j) xs) ∙ take_front m (n - j) (drop j xs) (omega (arith, within))
 
 -- what a stretch has between two sequences, the list has there
 pub stretch_between : (first b lo hi : ℕ) (all xs : List Entry) → AreNumbered b xs → IsStretch first all xs → b ≤ lo → lo ≤ hi → hi < b + length xs → between b lo hi xs ≡ between first lo hi all

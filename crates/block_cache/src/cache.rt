@@ -255,7 +255,7 @@ impl BlockCache {
         found: &mut Vec<Entry>,
     ) -> Result<Option<u64>, AllocError>
         requires some { lo ≤ hi }
-        ensures found { IfOk result (λ taken. IfSome taken (λ reached. IsFound self.old self.new lo hi found.old.items found.new.items reached)) }
+        ensures taken { IfOk result (λ taken. IfSome taken (λ reached. IsFound self.old self.new lo hi found.old.items found.new.items reached)) }
         ensures none { IfOk result (λ taken. IfNone taken (HasSequence self.old lo → ⊥)) }
         ensures nothing { IfOk result (λ taken. IfNone taken (found.new.items ≡ found.old.items)) }
         ensures keep { (n : ℕ) → HasSequence self.old n → HasSequence self.new n }

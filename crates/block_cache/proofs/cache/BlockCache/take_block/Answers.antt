@@ -53,7 +53,7 @@ returns-in_default-clause-cached g c = λ tells all holds are. c.take_read.ensur
 pub returns-clause-taken : goal.returns-clause-taken
 returns-clause-taken g c =
     taken_found g.S.Store.tells (λ (all : List Entry). Holds c.args.book.now all (g.S.Store.disk c.args.store.now)) c.args.book.now.first c.args.self.now c.take_kept.new.self c.args.lo c.args.hi c.in-Some.reached
-    c.args.found.now.items c.take_kept.new.found.items (if_is _ _ _ c.in-Some.is c.in_ok-reached.ensures.found)
+    c.args.found.now.items c.take_kept.new.found.items (if_is _ _ _ c.in-Some.is c.in_ok-reached.ensures.taken)
 
 pub returns-clause-keep : goal.returns-clause-keep
 returns-clause-keep g c = λ there n has. c.take_kept.ensures.keep n has

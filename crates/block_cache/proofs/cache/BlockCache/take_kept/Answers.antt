@@ -16,24 +16,24 @@ copy_kept-requires c = record { key = sym c.key_of.ensures ∙ c.in-Some.is; som
 
 pub invariant_of-self : goal.invariant_of-self
 invariant_of-self c =
-    subst (λ (m : LruCache ℕ (List Entry)). (m.cap ≡ 64) × AllByRecursion (λ kept. IsShort kept.1) m.entries) (sym c.promote.ensures.entries)
+    subst (λ (m : LruCache ℕ (List Entry)). (m.cap ≡ 64) × AllByRecursion (λ kept. IsShort kept.1) m.entries) (sym c.promote-there.ensures.entries)
     (c.self.invariant.0, all_promoted (nat_eq c.in-Some.key) (λ kept. IsShort kept.1) c.self.inside.blocks.entries c.self.invariant.1)
 
-pub returns-clause-found : goal.returns-clause-found
-returns-clause-found c =
+pub returns-clause-taken : goal.returns-clause-taken
+returns-clause-taken c =
     let es = c.self.inside.blocks.entries in
     let told = c.in_ok-reached.ensures in
     let reached = c.in_ok-reached.reached in
     record {
       from = told.from;
       upto = told.upto;
-      has = subst (λ (m : LruCache ℕ (List Entry)). HasSequence (values_of m.entries) reached) (sym c.promote.ensures.entries) (has_promoted (nat_eq c.in-Some.key) reached es ∙ told.has);
+      has = subst (λ (m : LruCache ℕ (List Entry)). HasSequence (values_of m.entries) reached) (sym c.promote-there.ensures.entries) (has_promoted (nat_eq c.in-Some.key) reached es ∙ told.has);
       copied = λ first all are. told.copied first all (subst (λ (l : List (List Entry)). AreStretches first all l) (sym c.self.view_is) are);
     }
 
 pub returns-clause-keep : goal.returns-clause-keep
 returns-clause-keep c = λ n has.
-    subst (λ (m : LruCache ℕ (List Entry)). HasSequence (values_of m.entries) n) (sym c.promote.ensures.entries)
+    subst (λ (m : LruCache ℕ (List Entry)). HasSequence (values_of m.entries) n) (sym c.promote-there.ensures.entries)
     (has_promoted (nat_eq c.in-Some.key) n c.self.inside.blocks.entries ∙ subst (λ (l : List (List Entry)). HasSequence l n) (sym c.self.view_is) has)
 
 pub returns-clause-cached : goal.returns-clause-cached
@@ -41,5 +41,5 @@ returns-clause-cached c = λ first all are.
     let es = c.self.inside.blocks.entries in
     let key = c.in-Some.key in
     let before = all_kept (IsStretch first all) es (subst (λ (l : List (List Entry)). AreStretches first all l) (sym c.self.view_is) are) in
-    subst (λ (m : LruCache ℕ (List Entry)). AreStretches first all (values_of m.entries)) (sym c.promote.ensures.entries)
+    subst (λ (m : LruCache ℕ (List Entry)). AreStretches first all (values_of m.entries)) (sym c.promote-there.ensures.entries)
     (all_values (IsStretch first all) (promoted (nat_eq key) es) (all_promoted (nat_eq key) (λ kept. IsStretch first all kept.1) es before))
