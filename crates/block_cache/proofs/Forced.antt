@@ -10,5 +10,6 @@ use Rattle.block_cache.proofs.Stretches.{whole_between}
 pub forced_there : (book : BookState) (all : List Entry) (disk : Disk) → Holds book all disk → (n : ℕ) → n < book.first + book.forced → n < book.first + length all
 forced_there book all disk holds n below = omega (arith, below, holds.keeps.forced, ap (λ (l : List Entry). length l) holds.keeps.all, length-append holds.keeps.front holds.keeps.tail)
 
-pub forced_whole : (book : BookState) (all : List Entry) (disk : Disk) → Holds book all disk → (lo hi : ℕ) → book.first ≤ lo → lo ≤ hi → hi < book.first + book.forced → IsWhole lo hi (between book.first lo hi all)
+pub forced_whole : (book : BookState) (all : List Entry) (disk : Disk) → Holds book all disk → (lo hi : ℕ) → book.first ≤ lo → lo ≤ hi → hi < book.first + book.forced
+    → IsWhole lo hi (between book.first lo hi all)
 forced_whole book all disk holds lo hi from some below = whole_between book.first lo hi all holds.keeps.numbered from some (forced_there book all disk holds hi below)

@@ -50,10 +50,11 @@ no_key n es none has = false≢true (ap (λ (o : Option ℕ). is_some o) (sym no
 
 key_there : (n k : ℕ) (es : List (ℕ × List Entry)) → key_of n es ≡ Some k → (block : List Entry) × Contains es (k, block) × IsTrue (has_entry n block)
 key_there n k [] is = absurd (none-some k is)
-key_there n k (e ∷ es) is = (elim (has_entry n e.1) as (λ (b : Bool). has_entry n e.1 ≡ b → (if b then Some e.0 else key_of n es) ≡ Some k → (block : List Entry) × Contains (e ∷ es) (k, block) × IsTrue (has_entry n block)) [
-  | true ↦ λ has same. (e.1, subst (λ (j : ℕ). Contains (e ∷ es) (j, e.1)) (same_Some e.0 k same) (Contains-head e es), has)
-  | false ↦ λ has same. let on = key_there n k es same in (on.0, Contains-tail e es (k, on.0) on.1, on.2)
-]) refl is
+key_there n k (e ∷ es) is = (elim (has_entry n e.1) as (λ (b : Bool). has_entry n e.1 ≡ b → (if b then Some e.0 else key_of n es) ≡ Some k
+    → (block : List Entry) × Contains (e ∷ es) (k, block) × IsTrue (has_entry n block)) [
+      | true ↦ λ has same. (e.1, subst (λ (j : ℕ). Contains (e ∷ es) (j, e.1)) (same_Some e.0 k same) (Contains-head e es), has)
+      | false ↦ λ has same. let on = key_there n k es same in (on.0, Contains-tail e es (k, on.0) on.1, on.2)
+    ]) refl is
 
 -- where no key stands twice, it leads to that block
 pub key_found : (n k : ℕ) (es : List (ℕ × List Entry)) → IsDistinct nat_eq (keys_of es) → key_of n es ≡ Some k → (block : List Entry) × (lookup (nat_eq k) es ≡ Some block) × IsTrue (has_entry n block)
@@ -76,14 +77,17 @@ module _ (test : ℕ → Bool) where
 
   -- ---- one that is used
 
-  removed : (n : ℕ) (es : List (ℕ × List Entry)) (e : ℕ × List Entry) → lookup_entry test es ≡ Some e → has_sequence n (values_of es) ≡ (has_entry n e.1 || has_sequence n (values_of (remove_entry test es)))
+  removed : (n : ℕ) (es : List (ℕ × List Entry)) (e : ℕ × List Entry) → lookup_entry test es ≡ Some e
+      → has_sequence n (values_of es) ≡ (has_entry n e.1 || has_sequence n (values_of (remove_entry test es)))
   removed n [] e is = absurd (none-some e is)
-  removed n (f ∷ es) e is = (elim (test f.0) as (λ (b : Bool). cond b (Some f) (lookup_entry test es) ≡ Some e → (has_entry n f.1 || has_sequence n (values_of es)) ≡ (has_entry n e.1 || has_sequence n (values_of (cond b es (f ∷ remove_entry test es))))) [
-    | true ↦ λ same. ap (λ (x : ℕ × List Entry). has_entry n x.1 || has_sequence n (values_of es)) (same_Some f e same)
-    | false ↦ λ same. ap (λ (b : Bool). has_entry n f.1 || b) (removed n es e same) ∙ or_swap (has_entry n f.1) (has_entry n e.1) (has_sequence n (values_of (remove_entry test es)))
-  ]) is
+  removed n (f ∷ es) e is = (elim (test f.0) as (λ (b : Bool). cond b (Some f) (lookup_entry test es) ≡ Some e
+      → (has_entry n f.1 || has_sequence n (values_of es)) ≡ (has_entry n e.1 || has_sequence n (values_of (cond b es (f ∷ remove_entry test es))))) [
+        | true ↦ λ same. ap (λ (x : ℕ × List Entry). has_entry n x.1 || has_sequence n (values_of es)) (same_Some f e same)
+        | false ↦ λ same. ap (λ (b : Bool). has_entry n f.1 || b) (removed n es e same) ∙ or_swap (has_entry n f.1) (has_entry n e.1) (has_sequence n (values_of (remove_entry test es)))
+      ]) is
 
-  promoted_by : (n : ℕ) (es : List (ℕ × List Entry)) (o : Option (ℕ × List Entry)) → lookup_entry test es ≡ o → has_sequence n (values_of (option_map_or (λ e. e ∷ remove_entry test es) o es)) ≡ has_sequence n (values_of es)
+  promoted_by : (n : ℕ) (es : List (ℕ × List Entry)) (o : Option (ℕ × List Entry)) → lookup_entry test es ≡ o
+      → has_sequence n (values_of (option_map_or (λ e. e ∷ remove_entry test es) o es)) ≡ has_sequence n (values_of es)
   promoted_by n es None is = refl
   promoted_by n es (Some e) is = sym (removed n es e is)
 
@@ -121,14 +125,16 @@ all_take P (suc n) [] all = all
 all_take P (suc n) (e ∷ es) all = (all.0, all_take P n es all.1)
 
 module _ (c : LruCache ℕ (List Entry)) (k : ℕ) (v : List Entry) where
-  put_by : (P : List Entry → Type 0) (o : Option (ℕ × List Entry)) → P v → AllByRecursion (λ kept. P kept.1) c.entries → AllByRecursion (λ kept. P kept.1) (option_map_or (λ e. (e.0, v) ∷ remove_entry (nat_eq k) c.entries) o ((k, v) ∷ take (c.cap - 1) c.entries))
+  put_by : (P : List Entry → Type 0) (o : Option (ℕ × List Entry)) → P v → AllByRecursion (λ kept. P kept.1) c.entries
+      → AllByRecursion (λ kept. P kept.1) (option_map_or (λ e. (e.0, v) ∷ remove_entry (nat_eq k) c.entries) o ((k, v) ∷ take (c.cap - 1) c.entries))
   put_by P None here all = (here, all_take (λ kept. P kept.1) (c.cap - 1) c.entries all)
   put_by P (Some e) here all = (here, all_removed (nat_eq k) (λ kept. P kept.1) c.entries all)
 
   pub all_put : (P : List Entry → Type 0) → P v → AllByRecursion (λ kept. P kept.1) c.entries → AllByRecursion (λ kept. P kept.1) (put_entries nat_eq c k v)
   all_put P here all = put_by P (lookup_entry (nat_eq k) c.entries) here all
 
-  has_by : (n : ℕ) (o : Option (ℕ × List Entry)) → IsTrue (has_entry n v) → HasSequence (values_of (option_map_or (λ e. (e.0, v) ∷ remove_entry (nat_eq k) c.entries) o ((k, v) ∷ take (c.cap - 1) c.entries))) n
+  has_by : (n : ℕ) (o : Option (ℕ × List Entry)) → IsTrue (has_entry n v) → HasSequence (values_of
+      (option_map_or (λ e. (e.0, v) ∷ remove_entry (nat_eq k) c.entries) o ((k, v) ∷ take (c.cap - 1) c.entries))) n
   has_by n None has = ap (λ (b : Bool). b || has_sequence n (values_of (take (c.cap - 1) c.entries))) has
   has_by n (Some e) has = ap (λ (b : Bool). b || has_sequence n (values_of (remove_entry (nat_eq k) c.entries))) has
 

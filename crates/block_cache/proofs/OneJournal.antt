@@ -36,7 +36,8 @@ stretch_prop first entries (e ∷ more) =
     let shape : IsProp ((first ≤ e.sequence) × (e.sequence + length more < first + length entries) × (e ∷ more ≡ whole)) = ×₃_prop le_prop le_prop same in
     shape
 
-pub stretches_again : (book : BookState) (blocks : List (List Entry)) (old new : Disk) → Stays old new → IsHeld book old → ((all : List Entry) → Holds book all old → AreStretches book.first all blocks) → (all : List Entry) → Holds book all new → AreStretches book.first all blocks
+pub stretches_again : (book : BookState) (blocks : List (List Entry)) (old new : Disk) → Stays old new → IsHeld book old
+    → ((all : List Entry) → Holds book all old → AreStretches book.first all blocks) → (all : List Entry) → Holds book all new → AreStretches book.first all blocks
 stretches_again book blocks old new stays held cached all holds =
     ∥∥₁_elim held (AllByRecursion-prop (IsStretch book.first all) (λ block. stretch_prop book.first all block) blocks)
     (λ has. subst (λ (l : List Entry). AreStretches book.first l blocks) (one_journal book has.0 all new (stays_holds book has.0 old new stays has.1) holds) (cached has.0 has.1))

@@ -63,7 +63,8 @@ module _ (tells : Type 0) (Held : List Entry → Type 0) (first : ℕ) where
   }
 
   -- a block that stood in the cache
-  pub taken_found : (old new : List (List Entry)) (lo hi reached : ℕ) (found after : List Entry) → IsFound old new lo hi found after reached → IsTaken tells Held first old new lo hi found after reached
+  pub taken_found : (old new : List (List Entry)) (lo hi reached : ℕ) (found after : List Entry) → IsFound old new lo hi found after reached
+      → IsTaken tells Held first old new lo hi found after reached
   taken_found old new lo hi reached found after is = record { from = is.from; upto = is.upto; stands = inl is.has; taken = λ told all held are. is.copied first all are }
 
   -- a block that was read, where none stood in the cache
@@ -90,6 +91,8 @@ module _ (tells : Type 0) (Held : List Entry → Type 0) (first : ℕ) where
       at_last same (inr (inr long)) = inr (subst (λ (n : ℕ). IsLongBlock n (IsOf tells Held first)) same long)
 
 -- the forced entries and those that wait are those of the range
-pub read_all : (first lo hi reached : ℕ) (all none found whole : List Entry) → first ≤ lo → lo ≤ reached + 1 → reached ≤ hi → none ≡ [] → found ≡ none ++ between first lo reached all → whole ≡ found ++ between first (reached + 1) hi all → whole ≡ between first lo hi all
+pub read_all : (first lo hi reached : ℕ) (all none found whole : List Entry) → first ≤ lo → lo ≤ reached + 1 → reached ≤ hi → none ≡ [] → found ≡ none ++ between first lo reached all
+    → whole ≡ found ++ between first (reached + 1) hi all → whole ≡ between first lo hi all
 read_all first lo hi reached all none found whole from mid upto empty forced waits =
-    waits ∙ ap (λ (l : List Entry). l ++ between first (reached + 1) hi all) (forced ∙ ap (λ (l : List Entry). l ++ between first lo reached all) empty) ∙ between_on first lo reached hi all from mid upto
+    waits ∙ ap (λ (l : List Entry). l ++ between first (reached + 1) hi all) (forced ∙ ap (λ (l : List Entry). l ++ between first lo reached all) empty)
+    ∙ between_on first lo reached hi all from mid upto

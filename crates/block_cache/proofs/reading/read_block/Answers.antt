@@ -64,4 +64,5 @@ returns-clause-there g c = λ tells all holds.
     let told = some_match _ _ _ _ c.in-Some.is c.of.ensures in
     let read = c.in_ok-entries.ensures.entries tells all holds in
     let below = forced_there book all (g.S.Store.disk c.args.store.now) holds bounds.last c.requires.forced in
-    subst (λ (l : List Entry). IsStretch book.first all l) (sym told.0) (whole_stretch book.first bounds.first bounds.last all c.in_ok-entries.entries.items read told.1 c.requires.from c.requires.some below)
+    subst (λ (l : List Entry). IsStretch book.first all l) (sym told.0) (whole_stretch book.first bounds.first bounds.last all c.in_ok-entries.entries.items read told.1 c.requires.from
+    c.requires.some below)

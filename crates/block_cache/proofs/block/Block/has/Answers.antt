@@ -8,4 +8,5 @@ use Rattle.block_cache.proofs.block.Block.has.Goals as goal
 pub returns : goal.returns
 returns c =
     let numbered = subst (λ (l : List Entry). AreNumbered c.self.inside.first l) (sym c.deref.ensures.value) c.self.invariant in
-    has_is c.is_within.result c.args.sequence c.self.inside.first c.deref.result.now numbered c.is_within.ensures ∙ ap (λ (l : List Entry). has_entry c.args.sequence l) (c.deref.ensures.value ∙ c.self.view_is)
+    has_is c.is_within.result c.args.sequence c.self.inside.first c.deref.result.now numbered c.is_within.ensures
+    ∙ ap (λ (l : List Entry). has_entry c.args.sequence l) (c.deref.ensures.value ∙ c.self.view_is)

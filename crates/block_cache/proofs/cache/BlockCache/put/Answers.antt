@@ -10,17 +10,20 @@ use Rattle.block_cache.proofs.cache.BlockCache.put.Goals as goal
 pub invariant_of-self : goal.invariant_of-self
 invariant_of-self c =
     let old = c.self.inside.blocks in
-    put_either c.put.result (λ m. (m.cap ≡ 64) × AllByRecursion (λ kept. IsShort kept.1) m.entries) old c.put.new.self (lru_cache (put_entries nat_eq old c.args.key c.args.block) old.cap) c.put.ensures.entries c.put.ensures.err c.self.invariant
+    put_either c.put.result (λ m. (m.cap ≡ 64) × AllByRecursion (λ kept. IsShort kept.1) m.entries) old c.put.new.self (lru_cache (put_entries nat_eq old c.args.key c.args.block) old.cap)
+    c.put.ensures.entries c.put.ensures.err c.self.invariant
     (c.self.invariant.0, all_put old c.args.key c.args.block IsShort c.requires c.self.invariant.1)
 
 pub invariant_of-self-2 : goal.invariant_of-self-2
 invariant_of-self-2 c =
     let old = c.self.inside.blocks in
-    subst (λ (m : LruCache ℕ (List Entry)). (m.cap ≡ 64) × AllByRecursion (λ kept. IsShort kept.1) m.entries) (sym c.in_ok-put.ensures.entries) (c.self.invariant.0, all_put old c.args.key c.args.block IsShort c.requires c.self.invariant.1)
+    subst (λ (m : LruCache ℕ (List Entry)). (m.cap ≡ 64) × AllByRecursion (λ kept. IsShort kept.1) m.entries) (sym c.in_ok-put.ensures.entries)
+    (c.self.invariant.0, all_put old c.args.key c.args.block IsShort c.requires c.self.invariant.1)
 
 pub returns-in_err-put-clause-cached : goal.returns-in_err-put-clause-cached
 returns-in_err-put-clause-cached c = λ first all are is.
-    subst (λ (m : LruCache ℕ (List Entry)). AreStretches first all (values_of m.entries)) (sym c.in_err-put.ensures.err) (subst (λ (l : List (List Entry)). AreStretches first all l) (sym c.self.view_is) are)
+    subst (λ (m : LruCache ℕ (List Entry)). AreStretches first all (values_of m.entries)) (sym c.in_err-put.ensures.err)
+    (subst (λ (l : List (List Entry)). AreStretches first all l) (sym c.self.view_is) are)
 
 pub returns-clause-stands : goal.returns-clause-stands
 returns-clause-stands c = λ n has.

@@ -39,7 +39,8 @@ returns-in_err-reached-clause-unchanged g c = λ kept sequence area at is.
 
 pub returns-in_err-take_waiting-clause-untouched : goal.returns-in_err-take_waiting-clause-untouched
 returns-in_err-take_waiting-clause-untouched g c = λ below all.
-    c.take_waiting.ensures.same (at_end c.in_ok-reached.reached c.args.hi (c.args.book.now.first + c.args.book.now.forced) c.in_ok-reached.ensures.ends below) ∙ c.take_forced.ensures.untouched (λ n from upto. inr (all n from upto))
+    c.take_waiting.ensures.same (at_end c.in_ok-reached.reached c.args.hi (c.args.book.now.first + c.args.book.now.forced) c.in_ok-reached.ensures.ends below)
+    ∙ c.take_forced.ensures.untouched (λ n from upto. inr (all n from upto))
 
 pub returns-in_err-take_waiting-clause-unread : goal.returns-in_err-take_waiting-clause-unread
 returns-in_err-take_waiting-clause-unread g c = λ kept. c.take_waiting.ensures.unread ∙ ap (λ (it : g.row.S.Denot). (g.S.Store.disk it).faults) (c.take_forced.ensures.untouched kept)
@@ -48,17 +49,20 @@ pub returns-clause-entries : goal.returns-clause-entries
 returns-clause-entries g c = λ tells all holds are.
     let taken = c.in_ok-reached.ensures.taken in
     let there = stays_holds c.args.book.now all (g.S.Store.disk c.args.store.now) (g.S.Store.disk c.take_forced.new.store) c.take_forced.ensures.stays holds in
-    read_all c.args.book.now.first c.args.lo c.args.hi c.in_ok-reached.reached all _ c.take_forced.new.found.items c.take_waiting.new.found.items c.requires.kept taken.from taken.upto c.new-found.ensures.items (taken.taken tells all holds are)
+    read_all c.args.book.now.first c.args.lo c.args.hi c.in_ok-reached.reached all _ c.take_forced.new.found.items c.take_waiting.new.found.items c.requires.kept taken.from taken.upto
+    c.new-found.ensures.items (taken.taken tells all holds are)
     (c.in_ok-take_waiting.ensures.taken tells all there)
 
 pub returns-clause-untouched : goal.returns-clause-untouched
 returns-clause-untouched g c = λ below all.
-    c.take_waiting.ensures.same (at_end c.in_ok-reached.reached c.args.hi (c.args.book.now.first + c.args.book.now.forced) c.in_ok-reached.ensures.ends below) ∙ c.take_forced.ensures.untouched (λ n from upto. inr (all n from upto))
+    c.take_waiting.ensures.same (at_end c.in_ok-reached.reached c.args.hi (c.args.book.now.first + c.args.book.now.forced) c.in_ok-reached.ensures.ends below)
+    ∙ c.take_forced.ensures.untouched (λ n from upto. inr (all n from upto))
 
 pub returns-clause-unread : goal.returns-clause-unread
 returns-clause-unread g c = λ kept. c.take_waiting.ensures.unread ∙ ap (λ (it : g.row.S.Denot). (g.S.Store.disk it).faults) (c.take_forced.ensures.untouched kept)
 
 pub returns-clause-keeps : goal.returns-clause-keeps
 returns-clause-keeps g c =
-    kept_last g.S.Store.tells (λ (all : List Entry). Holds c.args.book.now all (g.S.Store.disk c.args.store.now)) c.args.book.now.first c.args.self.now c.take_forced.new.self c.args.book.now c.args.lo c.args.hi c.in_ok-reached.reached _ c.take_forced.new.found.items
+    kept_last g.S.Store.tells (λ (all : List Entry). Holds c.args.book.now all (g.S.Store.disk c.args.store.now)) c.args.book.now.first c.args.self.now c.take_forced.new.self c.args.book.now
+    c.args.lo c.args.hi c.in_ok-reached.reached _ c.take_forced.new.found.items
     c.requires.some c.in_ok-reached.ensures.taken c.in_ok-reached.ensures.ends

@@ -38,8 +38,10 @@ returns-in_err-last-clause-cached g c = λ tells all holds are. c.take_read.ensu
 
 pub returns-in_default-clause-taken : goal.returns-in_default-clause-taken
 returns-in_default-clause-taken g c =
-    taken_read g.S.Store.tells (λ (all : List Entry). Holds c.args.book.now all (g.S.Store.disk c.args.store.now)) c.args.book.now.first c.args.self.now c.take_kept.new.self c.take_read.new.self c.args.lo c.args.hi c.in_ok-last.last
-    c.args.found.now.items c.take_kept.new.found.items c.take_read.new.found.items (λ all are. c.take_kept.ensures.cached c.args.book.now.first all are) (if_none _ _ c.in_default.is c.in_ok-reached.ensures.nothing) c.in_ok-last.ensures.taken
+    taken_read g.S.Store.tells (λ (all : List Entry). Holds c.args.book.now all (g.S.Store.disk c.args.store.now)) c.args.book.now.first c.args.self.now c.take_kept.new.self c.take_read.new.self
+    c.args.lo c.args.hi c.in_ok-last.last
+    c.args.found.now.items c.take_kept.new.found.items c.take_read.new.found.items (λ all are. c.take_kept.ensures.cached c.args.book.now.first all are)
+    (if_none _ _ c.in_default.is c.in_ok-reached.ensures.nothing) c.in_ok-last.ensures.taken
 
 pub returns-in_default-clause-untouched : goal.returns-in_default-clause-untouched
 returns-in_default-clause-untouched g c = λ there. absurd (if_none _ _ c.in_default.is c.in_ok-reached.ensures.none there)
@@ -52,7 +54,8 @@ returns-in_default-clause-cached g c = λ tells all holds are. c.take_read.ensur
 
 pub returns-clause-taken : goal.returns-clause-taken
 returns-clause-taken g c =
-    taken_found g.S.Store.tells (λ (all : List Entry). Holds c.args.book.now all (g.S.Store.disk c.args.store.now)) c.args.book.now.first c.args.self.now c.take_kept.new.self c.args.lo c.args.hi c.in-Some.reached
+    taken_found g.S.Store.tells (λ (all : List Entry). Holds c.args.book.now all (g.S.Store.disk c.args.store.now)) c.args.book.now.first c.args.self.now c.take_kept.new.self c.args.lo c.args.hi
+    c.in-Some.reached
     c.args.found.now.items c.take_kept.new.found.items (if_is _ _ _ c.in-Some.is c.in_ok-reached.ensures.taken)
 
 pub returns-clause-keep : goal.returns-clause-keep

@@ -14,7 +14,8 @@ use Rattle.block_cache.proofs.cache.BlockCache.take_forced.Goals as goal
 pub loop-alloc-init : goal.loop-alloc-init
 loop-alloc-init g c = record {
   stays = stays_here (g.S.Store.disk c.args.store.now);
-  taken = taken_none g.S.Store.tells (λ (all : List Entry). Holds c.args.book.now all (g.S.Store.disk c.args.store.now)) c.args.book.now.first c.args.self.now c.args.lo c.args.hi c.args.found.now.items (omega (arith, c.requires.least, c.requires.kept)) c.requires.some;
+  taken = taken_none g.S.Store.tells (λ (all : List Entry). Holds c.args.book.now all (g.S.Store.disk c.args.store.now)) c.args.book.now.first c.args.self.now c.args.lo c.args.hi
+      c.args.found.now.items (omega (arith, c.requires.least, c.requires.kept)) c.requires.some;
   cached = λ tells all holds are. are;
   untouched = λ kept. refl;
   keep = λ kept n has. has;
@@ -44,7 +45,8 @@ returns-in_err-reached-clause-untouched g c = λ kept.
     let inv = c.loop-alloc.invariant in
     let r = c.loop-alloc.reached in
     let goes = c.goes_on.ensures.0 c.loop-alloc-test.true in
-    c.take_block.ensures.untouched (next_there c.args.self.now c.loop-alloc.self c.args.book.now (r + 1) goes.1 (kept (r + 1) inv.taken.from (omega (arith, goes.0))) (inv.keep kept (r + 1))) ∙ inv.untouched kept
+    c.take_block.ensures.untouched (next_there c.args.self.now c.loop-alloc.self c.args.book.now (r + 1) goes.1 (kept (r + 1) inv.taken.from (omega (arith, goes.0))) (inv.keep kept (r + 1)))
+    ∙ inv.untouched kept
 
 pub returns-in_err-reached-clause-never : goal.returns-in_err-reached-clause-never
 returns-in_err-reached-clause-never g c = λ kept is.
@@ -53,7 +55,8 @@ returns-in_err-reached-clause-never g c = λ kept is.
     let goes = c.goes_on.ensures.0 c.loop-alloc-test.true in
     let p = err_from_is_err_and c.from_residual.result c.from_residual.ensures.1 in
     let same : c.in_err-reached.field-0.0 ≡ StoreFault = cc (p.1, p.2, is) in
-    c.in_err-reached.ensures.never (next_there c.args.self.now c.loop-alloc.self c.args.book.now (r + 1) goes.1 (kept (r + 1) inv.taken.from (omega (arith, goes.0))) (inv.keep kept (r + 1))) (ap (λ (e : BookFault). Err e) same)
+    c.in_err-reached.ensures.never (next_there c.args.self.now c.loop-alloc.self c.args.book.now (r + 1) goes.1 (kept (r + 1) inv.taken.from (omega (arith, goes.0))) (inv.keep kept (r + 1)))
+    (ap (λ (e : BookFault). Err e) same)
 
 pub returns-in_err-reached-clause-unchanged : goal.returns-in_err-reached-clause-unchanged
 returns-in_err-reached-clause-unchanged g c = λ kept sequence area at is.
@@ -62,7 +65,8 @@ returns-in_err-reached-clause-unchanged g c = λ kept sequence area at is.
     let goes = c.goes_on.ensures.0 c.loop-alloc-test.true in
     let p = err_from_is_err_and c.from_residual.result c.from_residual.ensures.1 in
     let same : c.in_err-reached.field-0.0 ≡ BlockChanged sequence area at = cc (p.1, p.2, is) in
-    c.in_err-reached.ensures.unchanged (next_there c.args.self.now c.loop-alloc.self c.args.book.now (r + 1) goes.1 (kept (r + 1) inv.taken.from (omega (arith, goes.0))) (inv.keep kept (r + 1))) sequence area at (ap (λ (e : BookFault). Err e) same)
+    c.in_err-reached.ensures.unchanged (next_there c.args.self.now c.loop-alloc.self c.args.book.now (r + 1) goes.1 (kept (r + 1) inv.taken.from (omega (arith, goes.0))) (inv.keep kept (r + 1)))
+    sequence area at (ap (λ (e : BookFault). Err e) same)
 
 pub returns-in_err-reached-clause-cached : goal.returns-in_err-reached-clause-cached
 returns-in_err-reached-clause-cached g c = λ tells all holds are.
@@ -79,11 +83,15 @@ loop-alloc-preserved g c =
     let now = g.S.Store.disk c.loop-alloc.store in
     record {
       stays = stays_trans _ _ _ inv.stays c.take_block.ensures.stays;
-      taken = taken_on g.S.Store.tells (λ (all : List Entry). Holds c.args.book.now all old) (λ (all : List Entry). Holds c.args.book.now all now) c.args.book.now.first (λ all holds. stays_holds c.args.book.now all old now inv.stays holds)
-          c.args.self.now c.loop-alloc.self c.take_block.new.self c.args.lo c.args.hi r c.in_ok-reached.reached c.args.found.now.items c.loop-alloc.found.items c.take_block.new.found.items c.requires.kept inv.cached inv.taken c.in_ok-reached.ensures.taken;
+      taken = taken_on g.S.Store.tells (λ (all : List Entry). Holds c.args.book.now all old) (λ (all : List Entry). Holds c.args.book.now all now) c.args.book.now.first
+          (λ all holds. stays_holds c.args.book.now all old now inv.stays holds)
+          c.args.self.now c.loop-alloc.self c.take_block.new.self c.args.lo c.args.hi r c.in_ok-reached.reached c.args.found.now.items c.loop-alloc.found.items c.take_block.new.found.items
+          c.requires.kept inv.cached inv.taken c.in_ok-reached.ensures.taken;
       cached = λ tells all holds are. c.take_block.ensures.cached tells all (stays_holds c.args.book.now all old now inv.stays holds) (inv.cached tells all holds are);
-      untouched = λ kept. c.take_block.ensures.untouched (next_there c.args.self.now c.loop-alloc.self c.args.book.now (r + 1) goes.1 (kept (r + 1) inv.taken.from (omega (arith, goes.0))) (inv.keep kept (r + 1))) ∙ inv.untouched kept;
-      keep = λ kept n has. c.take_block.ensures.keep (next_there c.args.self.now c.loop-alloc.self c.args.book.now (r + 1) goes.1 (kept (r + 1) inv.taken.from (omega (arith, goes.0))) (inv.keep kept (r + 1))) n (inv.keep kept n has);
+      untouched = λ kept. c.take_block.ensures.untouched (next_there c.args.self.now c.loop-alloc.self c.args.book.now (r + 1) goes.1 (kept (r + 1) inv.taken.from (omega (arith, goes.0)))
+          (inv.keep kept (r + 1))) ∙ inv.untouched kept;
+      keep = λ kept n has. c.take_block.ensures.keep (next_there c.args.self.now c.loop-alloc.self c.args.book.now (r + 1) goes.1 (kept (r + 1) inv.taken.from (omega (arith, goes.0)))
+          (inv.keep kept (r + 1))) n (inv.keep kept n has);
     }
 
 pub returns-clause-taken : goal.returns-clause-taken
