@@ -4,6 +4,7 @@
 
 mod blocks;
 mod book;
+mod bounds;
 mod dropping;
 mod fault;
 mod grammar;
@@ -15,6 +16,7 @@ mod starts;
 mod switching;
 
 pub use book::Book;
+pub use bounds::BlockBounds;
 pub use fault::BookFault;
 pub use laws::one_reading;
 pub use opening::open;

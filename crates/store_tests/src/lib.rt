@@ -1,6 +1,8 @@
-//! Tests of the stores in memory, of the log and of the roots.
+//! Tests of the stores in memory, of the log, of the roots and of the cache of blocks.
 #![tactic(auto)]
 
+#[cfg(test)]
+mod blocks;
 #[cfg(test)]
 mod logs;
 #[cfg(test)]

@@ -31,7 +31,7 @@ fn framed(alloc: Global, block: &[u8]) -> Result<Vec<u8>, AllocError>
 }
 
 /// Opens the log and appends a block.
-fn add<S: Store>(alloc: Global, store: &mut S, area: u32, block: &[u8]) -> Result<(), LogFault>
+pub fn add<S: Store>(alloc: Global, store: &mut S, area: u32, block: &[u8]) -> Result<(), LogFault>
     requires { length block.now ≤ 2 ^ 29 }
 {
     let bytes = framed(alloc, block)?;
