@@ -8,6 +8,7 @@ use Rattle.library_steps.specs.Change.{Change, changed}
 use Rattle.library_steps.specs.Step.{change, MayAnswer}
 use Rattle.library_steps.specs.History.{is_running}
 use Rattle.joint_state.specs.Sound.{IsSound, Does, after}
+use Rattle.joint_state.proofs.ReadLemmas.{own-read}
 
 changed-keeps : (P : State → Type 0) (s t : State) (reply : Reply) (r : Result Change Reply) → P s → ((done : Change) → r ≡ Ok done → P (after s done)) → (t, reply) ≡ changed s r → P t
 changed-keeps P s t reply (Ok done) holds kept is = subst P (sym (ap (λ p. p.0) is)) (kept done refl)
@@ -19,6 +20,10 @@ pub answer-keeps : (P : State → Type 0) (Q : List NamedSource → Type 0) → 
     → MayAnswer sources old job timestamp request reply new → P old → P new
 answer-keeps P Q kept sources old new job timestamp request reply are sound running (inl is) holds =
     changed-keeps P old new reply (change sources old.entries (memory_of old) job timestamp request) holds
-    (λ done does. kept old done (record { sound = sound; sources = sources; job = job; timestamp = timestamp; request = request; running = running; does = does }) are holds)
+    (λ done does.
+    let d : Does old done =
+    record { sound = sound; sources = sources; job = job; timestamp = timestamp; request = request; running = running; read = old.entries; reads = own-read old sound; does = does }
+    in
+    kept old done d are holds)
     is
 answer-keeps P Q kept sources old new job timestamp request reply are sound running (inr same) holds = subst P (sym same.0) holds

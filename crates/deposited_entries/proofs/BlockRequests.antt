@@ -2,6 +2,7 @@
 use Rattle.std.proofs.Common.{◌≡◌, ℕ, ◌+◌, ◌-◌, ◌*◌, ◌≤◌, length, IsTrue, Bool, true, false, is_some, Some, Ok, List, [], ◌∷◌, ◌++◌, slice_get, refl, ◌∙◌, ap, subst, arith}
 use Rattle.std.proofs.Math.Nat.{mul-add}
 use Rattle.entry_codec.specs.declared.entries.Draft.{Draft}
+use Rattle.entry_codec.specs.declared.entries.Entry.{Entry}
 use Rattle.entry_codec.specs.declared.kinds.EntryKind.TheVariants.{FileCreated, FileDeleted, MemberAdded, MemberCleared, MemberReorganized, JournalingStarted, JournalingEnded, NextReceiver, PreviousReceiver, CommitmentStarted, CommitmentEnded}
 use Rattle.entry_codec.specs.declared.kinds.FileKind.TheVariants.{Physical, Logical}
 use Rattle.file_model.specs.Positions.{Before, Past, next_from, prior_from, next_equal, prior_equal}
@@ -77,7 +78,7 @@ image-small : (fields : List Field) (slot : Slot) → HoldsValues fields slot �
 image-small fields (Live image) holds = let long = length-record fields image holds in omega (arith, long)
 image-small fields Deleted holds = omega arith
 
-module _ (s : State) (job timestamp : ℕ) (sound : IsSound s) (groups : GroupsWithin s) (running : IsTrue (is_running (job_at job s.jobs))) where
+module _ (s : State) (job timestamp : ℕ) (sound : IsSound s) (groups : GroupsWithin s) (running : IsTrue (is_running (job_at job s.jobs))) (read : List Entry) where
   abbrev m : Memory
   m = memory_of s
 
@@ -131,7 +132,7 @@ module _ (s : State) (job timestamp : ℕ) (sound : IsSound s) (groups : GroupsW
       let small = groups.bytes in
       omega (arith, size, changes, bytes, few, small)
 
-  pub request-blocked : (sources : List NamedSource) (done : Change) (request : Request) → AreShort sources → change sources s.entries m job timestamp request ≡ Ok done → IsBlocked done
+  pub request-blocked : (sources : List NamedSource) (done : Change) (request : Request) → AreShort sources → change sources read m job timestamp request ≡ Ok done → IsBlocked done
   unfolding change
   request-blocked sources done (requests.CreatePhysicalFile args) short h =
       does-each (create_change m job timestamp args) (create_plan sources m args) done IsBlocked h
@@ -166,15 +167,15 @@ module _ (s : State) (job timestamp : ℕ) (sound : IsSound s) (groups : GroupsW
   request-blocked sources done requests.ChangeJournal short h =
       does-each (attach_change m job timestamp) (attach_plan m) done IsBlocked h
       (λ number is. blocked _ next (library_draft author (NextReceiver number) ∷ library_draft author (PreviousReceiver s.receivers.attached) ∷ []) refl (omega arith))
-  request-blocked sources done (requests.DeleteReceiver args) short h = does-each _ (give_up_plan s.entries m args) done IsBlocked h (λ last is. silent _ refl)
+  request-blocked sources done (requests.DeleteReceiver args) short h = does-each _ (give_up_plan read m args) done IsBlocked h (λ last is. silent _ refl)
   request-blocked sources done requests.Checkpoint short h = does-each (save_change m) (save_plan m) done IsBlocked h (λ sequence is. silent _ refl)
-  request-blocked sources done (requests.DisplayJournal args) short h = does-each _ (display_plan s.entries m args) done IsBlocked h (λ shown is. silent _ refl)
+  request-blocked sources done (requests.DisplayJournal args) short h = does-each _ (display_plan read m args) done IsBlocked h (λ shown is. silent _ refl)
   request-blocked sources done (requests.ApplyChanges args) short h =
-      does-each (range_change m) (apply_plan s.entries m job timestamp args) done IsBlocked h
-      (λ work is. record { small = (apply-telling s.entries m job timestamp args work is).small })
+      does-each (range_change m) (apply_plan read m job timestamp args) done IsBlocked h
+      (λ work is. record { small = (apply-telling read m job timestamp args work is).small })
   request-blocked sources done (requests.RemoveChanges args) short h =
-      does-each (range_change m) (remove_plan s.entries m job timestamp args) done IsBlocked h
-      (λ work is. record { small = (remove-telling s.entries m job timestamp args work is).small })
+      does-each (range_change m) (remove_plan read m job timestamp args) done IsBlocked h
+      (λ work is. record { small = (remove-telling read m job timestamp args work is).small })
   request-blocked sources done (requests.StartCommitment args) short h =
       does-each _ (start_plan m job) done IsBlocked h (λ started is. blocked _ next (library_draft author (CommitmentStarted args.level) ∷ []) refl (omega arith))
   request-blocked sources done requests.EndCommitment short h =
@@ -215,7 +216,7 @@ module _ (s : State) (job timestamp : ℕ) (sound : IsSound s) (groups : GroupsW
 
 pub deposits-blocked : (s : State) (done : Change) (d : Does s done) → AreShort d.sources → GroupsWithin s → length (spelled done.entries) ≤ MOST_BLOCK_BYTES
 deposits-blocked s done d short groups =
-    let its = request-blocked s d.job d.timestamp d.sound groups d.running d.sources done d.request short d.does in
+    let its = request-blocked s d.job d.timestamp d.sound groups d.running d.read d.sources done d.request short d.does in
     let small = its.small in
     let same = spelled-bytes done.entries in
     omega (arith, small, same)

@@ -2,6 +2,7 @@
 use Rattle.std.proofs.Common.{◌≡◌, ℕ, zero, suc, ◌+◌, ◌-◌, ◌≤◌, ◌==◌, not, if◌then◌else◌, Bool, true, false, Option, Some, None, Ok, List, [], ◌∷◌, ◌++◌, map, unwrap_or, subst, arith}
 use Rattle.std.specs.List.{AllByRecursion}
 use Rattle.std.proofs.lemmas.Bool.Decides.{nat_tests}
+use Rattle.entry_codec.specs.declared.entries.Entry.{Entry}
 use Rattle.file_model.specs.Positions.{Before, Past, next_from, prior_from, next_equal, prior_equal}
 use Rattle.journal_model.specs.Replay.{before_of}
 use Rattle.journal_model.specs.Rollback.{MemberChange}
@@ -150,7 +151,7 @@ for-first last (Some cycle) counted = counted
 
 -- ---- each request
 
-module _ (s : State) (job timestamp : ℕ) (mine : IsCycleCounted (job_of job (memory_of s)).cycle) (c : CountsBy s.files s.members s.next_member s.jobs) where
+module _ (s : State) (job timestamp : ℕ) (mine : IsCycleCounted (job_of job (memory_of s)).cycle) (c : CountsBy s.files s.members s.next_member s.jobs) (read : List Entry) where
   abbrev m : Memory
   m = memory_of s
 
@@ -167,7 +168,7 @@ module _ (s : State) (job timestamp : ℕ) (mine : IsCycleCounted (job_of job (m
   back : Counts (taken_back (changes_of (job_of job m).cycle) m)
   back = back-counts (changes_of (job_of job m).cycle) m c
 
-  pub request-counts : (sources : List NamedSource) (done : Change) (request : Request) → change sources s.entries m job timestamp request ≡ Ok done → After done
+  pub request-counts : (sources : List NamedSource) (done : Change) (request : Request) → change sources read m job timestamp request ≡ Ok done → After done
   unfolding change
   request-counts sources done (requests.CreatePhysicalFile args) h =
       does-each (create_change m job timestamp args) (create_plan sources m args) done After h (λ new is. file-counts m args.file _ _ (create-wide sources m args new is) c)
@@ -216,13 +217,13 @@ module _ (s : State) (job timestamp : ℕ) (mine : IsCycleCounted (job_of job (m
   request-counts sources done (requests.EndJournaling args) h =
       does-each (end_journaling_change m job timestamp) (end_journaling_plan m args) done After h (λ status is. status-counts m status.number _ c)
   request-counts sources done requests.ChangeJournal h = does-each (attach_change m job timestamp) (attach_plan m) done After h (λ number is. c)
-  request-counts sources done (requests.DeleteReceiver args) h = does-each _ (give_up_plan s.entries m args) done After h (λ last is. c)
+  request-counts sources done (requests.DeleteReceiver args) h = does-each _ (give_up_plan read m args) done After h (λ last is. c)
   request-counts sources done requests.Checkpoint h = does-each (save_change m) (save_plan m) done After h (λ sequence is. c)
-  request-counts sources done (requests.DisplayJournal args) h = does-each _ (display_plan s.entries m args) done After h (λ shown is. c)
+  request-counts sources done (requests.DisplayJournal args) h = does-each _ (display_plan read m args) done After h (λ shown is. c)
   request-counts sources done (requests.ApplyChanges args) h =
-      does-each (range_change m) (apply_plan s.entries m job timestamp args) done After h (λ work is. member-counts m work.range.status.number _ c)
+      does-each (range_change m) (apply_plan read m job timestamp args) done After h (λ work is. member-counts m work.range.status.number _ c)
   request-counts sources done (requests.RemoveChanges args) h =
-      does-each (range_change m) (remove_plan s.entries m job timestamp args) done After h (λ work is. member-counts m work.range.status.number _ c)
+      does-each (range_change m) (remove_plan read m job timestamp args) done After h (λ work is. member-counts m work.range.status.number _ c)
   request-counts sources done (requests.StartCommitment args) h = does-each _ (start_plan m job) done After h (λ started is. job-counts m (job - 1) _ (λ j its. its) c)
   request-counts sources done requests.EndCommitment h = does-each _ (end_plan m job) done After h (λ ended is. job-counts m (job - 1) _ (λ j its. its) c)
   request-counts sources done requests.Commit h = does-each _ (found (job_of job m).level _) done After h (λ level is. job-counts m (job - 1) _ (λ j its. tt) c)
@@ -260,7 +261,7 @@ pub counted-after : (s : State) (done : Change) → Does s done → IsCounted s 
 counted-after s done d counted =
     let before : CountsBy s.files s.members s.next_member s.jobs =
     record { next_is = counted.next; members_are = counted.members; cycles_are = counted.cycles; records_are = counted.records } in
-    let its = request-counts s d.job d.timestamp (mine-counted s d.job d.sound d.running counted) before d.sources done d.request d.does in
+    let its = request-counts s d.job d.timestamp (mine-counted s d.job d.sound d.running counted) before d.read d.sources done d.request d.does in
     record { next = its.next_is; members = its.members_are; cycles = its.cycles_are; records = its.records_are }
 
 pub begun-counted : (s : State) (names : List (List ℕ)) → IsCounted s → IsCounted (begun s names)

@@ -2,6 +2,7 @@
 use Rattle.std.proofs.Common.{◌≡◌, ℕ, zero, suc, ◌+◌, ◌-◌, ◌≤◌, IsTrue, Bool, true, false, Option, Some, None, Ok, List, [], ◌∷◌, length, map, slice_get, refl, sym, ap, subst, arith}
 use Rattle.std.specs.List.{sum_by}
 use Rattle.std.proofs.lemmas.List.Sums.{sum_by-append, sum_by-cons}
+use Rattle.entry_codec.specs.declared.entries.Entry.{Entry}
 use Rattle.file_model.specs.Positions.{Before, Past, next_from, prior_from, next_equal, prior_equal}
 use Rattle.journal_model.specs.Rollback.{MemberChange}
 use Rattle.library_model.specs.declared.replies.Reply.TheVariants.{EndOfFile, BeginOfFile}
@@ -147,7 +148,7 @@ module _ (m : Memory) (job : ℕ) (there : slice_get m.jobs (job - 1) ≡ Some (
 
 -- ---- each request
 
-module _ (s : State) (job timestamp : ℕ) (running : IsTrue (is_running (job_at job s.jobs))) (groups : GroupsBy s.jobs) where
+module _ (s : State) (job timestamp : ℕ) (running : IsTrue (is_running (job_at job s.jobs))) (groups : GroupsBy s.jobs) (read : List Entry) where
   abbrev it : Memory
   it = memory_of s
 
@@ -163,7 +164,7 @@ module _ (s : State) (job timestamp : ℕ) (running : IsTrue (is_running (job_at
   back : GroupsBy (taken_back (changes_of (job_of job it).cycle) it).jobs
   back = subst GroupsBy (sym (taken_back-jobs (changes_of (job_of job it).cycle) it)) groups
 
-  pub request-groups : (sources : List NamedSource) (done : Change) (request : Request) → change sources s.entries it job timestamp request ≡ Ok done → GroupsBy done.memory.jobs
+  pub request-groups : (sources : List NamedSource) (done : Change) (request : Request) → change sources read it job timestamp request ≡ Ok done → GroupsBy done.memory.jobs
   unfolding change
   request-groups sources done (requests.CreatePhysicalFile args) h = does-each (create_change it job timestamp args) (create_plan sources it args) done After h (λ new is. groups)
   request-groups sources done (requests.CreateLogicalFile args) h = does-each (create_logical_change it job timestamp args) (create_logical_plan sources it args) done After h (λ new is. groups)
@@ -174,11 +175,11 @@ module _ (s : State) (job timestamp : ℕ) (running : IsTrue (is_running (job_at
   request-groups sources done (requests.StartJournaling args) h = does-each (start_change it job timestamp args) (start_journaling_plan it args) done After h (λ status is. groups)
   request-groups sources done (requests.EndJournaling args) h = does-each (end_journaling_change it job timestamp) (end_journaling_plan it args) done After h (λ status is. groups)
   request-groups sources done requests.ChangeJournal h = does-each (attach_change it job timestamp) (attach_plan it) done After h (λ number is. groups)
-  request-groups sources done (requests.DeleteReceiver args) h = does-each _ (give_up_plan s.entries it args) done After h (λ last is. groups)
+  request-groups sources done (requests.DeleteReceiver args) h = does-each _ (give_up_plan read it args) done After h (λ last is. groups)
   request-groups sources done requests.Checkpoint h = does-each (save_change it) (save_plan it) done After h (λ sequence is. groups)
-  request-groups sources done (requests.DisplayJournal args) h = does-each _ (display_plan s.entries it args) done After h (λ shown is. groups)
-  request-groups sources done (requests.ApplyChanges args) h = does-each (range_change it) (apply_plan s.entries it job timestamp args) done After h (λ work is. groups)
-  request-groups sources done (requests.RemoveChanges args) h = does-each (range_change it) (remove_plan s.entries it job timestamp args) done After h (λ work is. groups)
+  request-groups sources done (requests.DisplayJournal args) h = does-each _ (display_plan read it args) done After h (λ shown is. groups)
+  request-groups sources done (requests.ApplyChanges args) h = does-each (range_change it) (apply_plan read it job timestamp args) done After h (λ work is. groups)
+  request-groups sources done (requests.RemoveChanges args) h = does-each (range_change it) (remove_plan read it job timestamp args) done After h (λ work is. groups)
   request-groups sources done (requests.StartCommitment args) h = does-each _ (start_plan it job) done After h (λ started is. keeps _ (λ j. refl))
   request-groups sources done requests.EndCommitment h = does-each _ (end_plan it job) done After h (λ ended is. keeps _ (λ j. refl))
   request-groups sources done requests.Commit h = does-each _ (found (job_of job it).level _) done After h (λ level is. ended-groups s.jobs (job - 1) _ (λ j. refl) groups)
@@ -213,7 +214,7 @@ module _ (s : State) (job timestamp : ℕ) (running : IsTrue (is_running (job_at
 
 pub groups-after : (s : State) (done : Change) → Does s done → GroupsWithin s → GroupsWithin (after s done)
 groups-after s done d within =
-    let its = request-groups s d.job d.timestamp d.running (record { changes_are = within.changes; bytes_are = within.bytes }) d.sources done d.request d.does in
+    let its = request-groups s d.job d.timestamp d.running (record { changes_are = within.changes; bytes_are = within.bytes }) d.read d.sources done d.request d.does in
     record { changes = its.changes_are; bytes = its.bytes_are }
 
 -- ---- jobs that begin

@@ -2,6 +2,7 @@
 use Rattle.std.proofs.Common.{◌≡◌, ℕ, ◌+◌, nat_le, length, true, false, is_some, Ok, List, [], ◌∷◌, ◌++◌, refl, sym, subst}
 use Rattle.std.specs.List.{AllByRecursion}
 use Rattle.entry_codec.specs.declared.entries.Draft.{Draft}
+use Rattle.entry_codec.specs.declared.entries.Entry.{Entry}
 use Rattle.entry_codec.specs.declared.kinds.EntryKind.TheVariants.{FileCreated, FileDeleted, MemberAdded, MemberCleared, MemberReorganized, JournalingStarted, JournalingEnded, CommitmentStarted, CommitmentEnded}
 use Rattle.entry_codec.specs.declared.kinds.FileKind.TheVariants.{Physical, Logical}
 use Rattle.file_model.specs.Positions.{Before, Past, next_from, prior_from, next_equal, prior_equal}
@@ -55,7 +56,7 @@ inside done k drafts are free = record { each = subst (AllByRecursion IsInside) 
 none : (done : Change) → done.entries ≡ [] → Inside done
 none done are = record { each = subst (AllByRecursion IsInside) (sym are) tt }
 
-module _ (s : State) (job timestamp : ℕ) where
+module _ (s : State) (job timestamp : ℕ) (read : List Entry) where
   abbrev m : Memory
   m = memory_of s
 
@@ -65,7 +66,7 @@ module _ (s : State) (job timestamp : ℕ) where
   abbrev next : ℕ
   next = m.last_entry + 1
 
-  pub request-inside : (sources : List NamedSource) (done : Change) (request : Request) → switches request ≡ false → change sources s.entries m job timestamp request ≡ Ok done → Inside done
+  pub request-inside : (sources : List NamedSource) (done : Change) (request : Request) → switches request ≡ false → change sources read m job timestamp request ≡ Ok done → Inside done
   unfolding change
   request-inside sources done (requests.CreatePhysicalFile args) other h =
       does-each (create_change m job timestamp args) (create_plan sources m args) done Inside h
@@ -97,16 +98,16 @@ module _ (s : State) (job timestamp : ℕ) where
       does-each (end_journaling_change m job timestamp) (end_journaling_plan m args) done Inside h
       (λ status is. inside _ next (member_draft author status.number JournalingEnded ∷ []) refl (refl, tt))
   request-inside sources done requests.ChangeJournal other h = absurd cc
-  request-inside sources done (requests.DeleteReceiver args) other h = does-each _ (give_up_plan s.entries m args) done Inside h (λ last is. none _ refl)
+  request-inside sources done (requests.DeleteReceiver args) other h = does-each _ (give_up_plan read m args) done Inside h (λ last is. none _ refl)
   request-inside sources done requests.Checkpoint other h = does-each (save_change m) (save_plan m) done Inside h (λ sequence is. none _ refl)
-  request-inside sources done (requests.DisplayJournal args) other h = does-each _ (display_plan s.entries m args) done Inside h (λ shown is. none _ refl)
+  request-inside sources done (requests.DisplayJournal args) other h = does-each _ (display_plan read m args) done Inside h (λ shown is. none _ refl)
   request-inside sources done (requests.ApplyChanges args) other h =
-      does-each (range_change m) (apply_plan s.entries m job timestamp args) done Inside h
-      (λ work is. let tells = apply-telling s.entries m job timestamp args work is in
+      does-each (range_change m) (apply_plan read m job timestamp args) done Inside h
+      (λ work is. let tells = apply-telling read m job timestamp args work is in
       inside _ next work.drafts refl (subst (AllByRecursion IsFree) (sym tells.drafts) (told-free author (m.last_entry + 2) work.range.status.number _ (slots_now work.range m) _ refl)))
   request-inside sources done (requests.RemoveChanges args) other h =
-      does-each (range_change m) (remove_plan s.entries m job timestamp args) done Inside h
-      (λ work is. let tells = remove-telling s.entries m job timestamp args work is in
+      does-each (range_change m) (remove_plan read m job timestamp args) done Inside h
+      (λ work is. let tells = remove-telling read m job timestamp args work is in
       inside _ next work.drafts refl (subst (AllByRecursion IsFree) (sym tells.drafts) (told-free author (m.last_entry + 2) work.range.status.number _ (slots_now work.range m) _ refl)))
   request-inside sources done (requests.StartCommitment args) other h =
       does-each _ (start_plan m job) done Inside h (λ started is. inside _ next (library_draft author (CommitmentStarted args.level) ∷ []) refl (refl, tt))
@@ -149,7 +150,7 @@ module _ (s : State) (job timestamp : ℕ) where
       (definition-free author (job_of job m).level)))
 
 pub deposits-inside : (s : State) (done : Change) (d : Does s done) → switches d.request ≡ false → AllByRecursion IsInside done.entries
-deposits-inside s done d other = (request-inside s d.job d.timestamp d.sources done d.request other d.does).each
+deposits-inside s done d other = (request-inside s d.job d.timestamp d.read d.sources done d.request other d.does).each
 
 -- ---- CHGJRN
 
@@ -161,10 +162,10 @@ next-number m number h =
     let few = bind-ok (refuse_if (nat_le LAST_RECEIVER m.receivers.attached) (LimitReached Receivers LAST_RECEIVER)) _ number left.2 in
     ok-equal (m.receivers.attached + 1) number few.2
 
-switch-is : (s : State) (sources : List NamedSource) (job timestamp : ℕ) (done : Change) → change sources s.entries (memory_of s) job timestamp requests.ChangeJournal ≡ Ok done
+switch-is : (s : State) (read : List Entry) (sources : List NamedSource) (job timestamp : ℕ) (done : Change) → change sources read (memory_of s) job timestamp requests.ChangeJournal ≡ Ok done
     → AreSwitch s.receivers.attached done.entries
 unfolding change
-switch-is s sources job timestamp done h =
+switch-is s read sources job timestamp done h =
     let m = memory_of s in
     does-each (attach_change m job timestamp) (attach_plan m) done (λ c. AreSwitch s.receivers.attached c.entries) h
     (λ number is. subst (λ n. AreSwitch s.receivers.attached (attach_change m job timestamp n).entries) (next-number m number is)
@@ -206,5 +207,5 @@ is-switch (requests.EndJob args) h = absurd cc
 
 pub deposits-switch : (s : State) (done : Change) (d : Does s done) → switches d.request ≡ true → AreSwitch s.receivers.attached done.entries
 deposits-switch s done d its =
-    switch-is s d.sources d.job d.timestamp done
-    (subst (λ (r : Request). change d.sources s.entries (memory_of s) d.job d.timestamp r ≡ Ok done) (is-switch d.request its) d.does)
+    switch-is s d.read d.sources d.job d.timestamp done
+    (subst (λ (r : Request). change d.sources d.read (memory_of s) d.job d.timestamp r ≡ Ok done) (is-switch d.request its) d.does)

@@ -61,14 +61,14 @@ module _ (s : State) (done : Change) (d : Does s done) (short : AreShort d.sourc
 
   few-entries : length done.entries ≤ MOST_BLOCK_BYTES
   few-entries =
-      let small = (request-blocked s d.job d.timestamp d.sound groups d.running d.sources done d.request short d.does).small in
+      let small = (request-blocked s d.job d.timestamp d.sound groups d.running d.read d.sources done d.request short d.does).small in
       let count = count-bytes done.entries in
       omega (arith, small, count)
 
   pub sequences-after : SequencesSuffice (after s done)
   sequences-after =
-      let journaled = holds-done (change d.sources s.entries (memory_of s) d.job d.timestamp d.request) (IsJournaled s) done d.does
-      (change-journaled s d.sources d.job d.timestamp d.sound d.request) in
+      let journaled = holds-done (change d.sources d.read (memory_of s) d.job d.timestamp d.request) (IsJournaled s) done d.does
+      (change-journaled s d.sources d.job d.timestamp d.read d.reads d.request) in
       let last = last-after s done journaled in
       let count = paid.count in
       let before = sequences.due in

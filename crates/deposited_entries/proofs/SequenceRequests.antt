@@ -114,7 +114,7 @@ pub record IsPaid (s : State) (done : Change) : Type 0 where
   pub paid : ((memory_of s).last_entry ≤ LAST_SEQUENCE) ⊎ (length done.entries + sum_by sequences_due done.memory.jobs ≤ sum_by sequences_due s.jobs)
   pub count : length done.memory.jobs ≡ length s.jobs
 
-module _ (s : State) (job timestamp : ℕ) (running : IsTrue (is_running (job_at job s.jobs))) where
+module _ (s : State) (job timestamp : ℕ) (running : IsTrue (is_running (job_at job s.jobs))) (read : List Entry) where
   abbrev m : Memory
   m = memory_of s
 
@@ -173,7 +173,7 @@ module _ (s : State) (job timestamp : ℕ) (running : IsTrue (is_running (job_at
   back : (f : JobState → JobState) → job_changed (job - 1) f (taken_back (changes_of mine.cycle) m).jobs ≡ job_changed (job - 1) f s.jobs
   back f = ap (λ (js : List JobState). job_changed (job - 1) f js) (taken_back-jobs (changes_of mine.cycle) m)
 
-  pub request-paid : (sources : List NamedSource) (done : Change) (request : Request) → change sources s.entries m job timestamp request ≡ Ok done → IsPaid s done
+  pub request-paid : (sources : List NamedSource) (done : Change) (request : Request) → change sources read m job timestamp request ≡ Ok done → IsPaid s done
   unfolding change
   request-paid sources done (requests.CreatePhysicalFile args) h =
       does-each (create_change m job timestamp args) (create_plan sources m args) done (IsPaid s) h
@@ -203,20 +203,20 @@ module _ (s : State) (job timestamp : ℕ) (running : IsTrue (is_running (job_at
       does-each (attach_change m job timestamp) (attach_plan m) done (IsPaid s) h
       (λ number is. asked _ (attach-left m number is) refl)
   request-paid sources done (requests.DeleteReceiver args) h =
-      does-each _ (give_up_plan s.entries m args) done (IsPaid s) h
+      does-each _ (give_up_plan read m args) done (IsPaid s) h
       (λ last is. quiet _ refl refl)
   request-paid sources done requests.Checkpoint h =
       does-each (save_change m) (save_plan m) done (IsPaid s) h
       (λ sequence is. quiet _ refl refl)
   request-paid sources done (requests.DisplayJournal args) h =
-      does-each _ (display_plan s.entries m args) done (IsPaid s) h
+      does-each _ (display_plan read m args) done (IsPaid s) h
       (λ shown is. quiet _ refl refl)
   request-paid sources done (requests.ApplyChanges args) h =
-      does-each (range_change m) (apply_plan s.entries m job timestamp args) done (IsPaid s) h
-      (λ work is. asked _ (apply-left s.entries m job timestamp args work is) refl)
+      does-each (range_change m) (apply_plan read m job timestamp args) done (IsPaid s) h
+      (λ work is. asked _ (apply-left read m job timestamp args work is) refl)
   request-paid sources done (requests.RemoveChanges args) h =
-      does-each (range_change m) (remove_plan s.entries m job timestamp args) done (IsPaid s) h
-      (λ work is. asked _ (remove-left s.entries m job timestamp args work is) refl)
+      does-each (range_change m) (remove_plan read m job timestamp args) done (IsPaid s) h
+      (λ work is. asked _ (remove-left read m job timestamp args work is) refl)
   request-paid sources done (requests.StartCommitment args) h =
       does-each _ (start_plan m job) done (IsPaid s) h
       (λ started is. record { paid = inl (start-left m job started is); count = count-changed (job - 1) _ s.jobs })
@@ -278,4 +278,4 @@ module _ (s : State) (job timestamp : ℕ) (running : IsTrue (is_running (job_at
       subst (IsPaid s) same (spent _ _ _ (undo_entries author mine.cycle ++ definition_entries author mine.level) refl (back _) (omega (arith, undo, level, all)))
 
 pub deposits-paid : (s : State) (done : Change) → Does s done → IsPaid s done
-deposits-paid s done d = request-paid s d.job d.timestamp d.running d.sources done d.request d.does
+deposits-paid s done d = request-paid s d.job d.timestamp d.running d.read d.sources done d.request d.does

@@ -2,6 +2,7 @@
 use Rattle.std.proofs.Common.{◌≡◌, ℕ, ◌+◌, ◌≤◌, length, IsTrue, Bool, true, false, is_some, Option, Some, None, Ok, List, [], ◌∷◌, ◌++◌, refl, sym, subst, arith}
 use Rattle.std.specs.List.{AllByRecursion}
 use Rattle.entry_codec.specs.declared.entries.Draft.{Draft}
+use Rattle.entry_codec.specs.declared.entries.Entry.{Entry}
 use Rattle.entry_codec.specs.declared.kinds.EntryKind.TheVariants.{FileCreated, FileDeleted, MemberAdded, MemberCleared, MemberReorganized, JournalingStarted, JournalingEnded, NextReceiver, PreviousReceiver, CommitmentStarted, CommitmentEnded}
 use Rattle.entry_codec.specs.declared.kinds.FileKind.TheVariants.{Physical, Logical}
 use Rattle.entry_codec.specs.Spelling.{HasSpelling}
@@ -36,7 +37,7 @@ use Rattle.library_steps.specs.Step.{change}
 use Rattle.library_steps.specs.WriteRecord.{write_plan, write_change, write_call}
 use Rattle.lawful_states.specs.Lawful.{CycleGoesBack}
 use Rattle.lawful_states.proofs.BackLemmas.{CycleGoesBack-of}
-use Rattle.joint_state.specs.Sound.{Does, IsSound}
+use Rattle.joint_state.specs.Sound.{Does, IsSound, MayBeRead}
 use Rattle.library_kept.proofs.ChangeLemmas.{MayChange, write-may, update-may, delete-may}
 use Rattle.library_kept.proofs.ListLemmas.{each-append}
 use Rattle.library_kept.proofs.PlanLemmas.{running-job}
@@ -75,7 +76,7 @@ end-shows : (author : Author) (cycle : Option CycleState) → AllByRecursion Sho
 end-shows author None = tt
 end-shows author (Some cycle) = (tt, tt)
 
-module _ (s : State) (job timestamp : ℕ) (sound : IsSound s) (counted : IsCounted s) (running : IsTrue (is_running (job_at job s.jobs))) where
+module _ (s : State) (job timestamp : ℕ) (sound : IsSound s) (counted : IsCounted s) (running : IsTrue (is_running (job_at job s.jobs))) (read : List Entry) (reads : MayBeRead s read) where
   abbrev m : Memory
   m = memory_of s
 
@@ -106,7 +107,7 @@ module _ (s : State) (job timestamp : ℕ) (sound : IsSound s) (counted : IsCoun
   all-mine : IsAllCounted (job_of job m).cycle
   all-mine = cycle-counted s (job_of job m).cycle counted mine goes_back
 
-  pub request-fits : (sources : List NamedSource) (done : Change) (request : Request) → AreShort sources → change sources s.entries m job timestamp request ≡ Ok done → Fits done
+  pub request-fits : (sources : List NamedSource) (done : Change) (request : Request) → AreShort sources → change sources read m job timestamp request ≡ Ok done → Fits done
   unfolding change
   request-fits sources done (requests.CreatePhysicalFile args) short h =
       does-each (create_change m job timestamp args) (create_plan sources m args) done Fits h
@@ -151,22 +152,22 @@ module _ (s : State) (job timestamp : ℕ) (sound : IsSound s) (counted : IsCoun
       does-each (attach_change m job timestamp) (attach_plan m) done Fits h
       (λ number is. fits _ next (library_draft author (NextReceiver number) ∷ library_draft author (PreviousReceiver s.receivers.attached) ∷ []) (omega arith) refl
       (record { placed = λ k some. refl; short = tt }, (record { placed = λ k some. refl; short = tt }, tt)) (tt, (tt, tt)))
-  request-fits sources done (requests.DeleteReceiver args) short h = does-each _ (give_up_plan s.entries m args) done Fits h (λ last is. silent _ refl)
+  request-fits sources done (requests.DeleteReceiver args) short h = does-each _ (give_up_plan read m args) done Fits h (λ last is. silent _ refl)
   request-fits sources done requests.Checkpoint short h = does-each (save_change m) (save_plan m) done Fits h (λ sequence is. silent _ refl)
-  request-fits sources done (requests.DisplayJournal args) short h = does-each _ (display_plan s.entries m args) done Fits h (λ shown is. silent _ refl)
+  request-fits sources done (requests.DisplayJournal args) short h = does-each _ (display_plan read m args) done Fits h (λ shown is. silent _ refl)
   request-fits sources done (requests.ApplyChanges args) short h =
-      does-each (range_change m) (apply_plan s.entries m job timestamp args) done Fits h
-      (λ work is. let may = apply-may s job timestamp args work sound is in
-      let tells = apply-telling s.entries m job timestamp args work is in
+      does-each (range_change m) (apply_plan read m job timestamp args) done Fits h
+      (λ work is. let may = apply-may s read job timestamp args work sound reads is in
+      let tells = apply-telling read m job timestamp args work is in
       fits _ next work.drafts (omega arith) refl
       (subst (AllByRecursion IsShaped) (sym tells.drafts)
       (told-shaped author (m.last_entry + 2) work.range.status.number (applied work.done) (slots_now work.range m) (forward work.done) (omega arith)
       (owned-counted s may.name may.file work.range.status.number sound counted may.owns) refl (λ k. refl) tt))
       (owned-show s may.name may.file work.range.status.number work.drafts sound counted may.owns may.drafts))
   request-fits sources done (requests.RemoveChanges args) short h =
-      does-each (range_change m) (remove_plan s.entries m job timestamp args) done Fits h
-      (λ work is. let may = remove-may s job timestamp args work sound is in
-      let tells = remove-telling s.entries m job timestamp args work is in
+      does-each (range_change m) (remove_plan read m job timestamp args) done Fits h
+      (λ work is. let may = remove-may s read job timestamp args work sound reads is in
+      let tells = remove-telling read m job timestamp args work is in
       fits _ next work.drafts (omega arith) refl
       (subst (AllByRecursion IsShaped) (sym tells.drafts)
       (told-shaped author (m.last_entry + 2) work.range.status.number (removed work.done) (slots_now work.range m) (given_back work.done) (omega arith)
@@ -213,7 +214,7 @@ module _ (s : State) (job timestamp : ℕ) (sound : IsSound s) (counted : IsCoun
       (end_entries-told s author (job_of job m).cycle (job_of job m).level sound goes_back (running-job s job running sound.joint).made k).0))
 
 pub deposits-fit : (s : State) (done : Change) (d : Does s done) → AreShort d.sources → IsCounted s → Fits done
-deposits-fit s done d short counted = request-fits s d.job d.timestamp d.sound counted d.running d.sources done d.request short d.does
+deposits-fit s done d short counted = request-fits s d.job d.timestamp d.sound counted d.running d.read d.reads d.sources done d.request short d.does
 
 pub deposits-spelled : (s : State) (done : Change) (d : Does s done) → AreShort d.sources → IsCounted s → AllByRecursion HasSpelling done.entries
 deposits-spelled s done d short counted =

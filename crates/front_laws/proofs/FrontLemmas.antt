@@ -8,7 +8,7 @@ use Rattle.library_model.specs.declared.sources.NamedSource.{NamedSource}
 use Rattle.library_steps.specs.State.{State}
 use Rattle.library_steps.specs.History.{Outcome, Standing, Failed, Runs}
 use Rattle.joint_state.specs.Sound.{IsSound, IsKept}
-use Rattle.sound_histories.proofs.HistoryLemmas.{AnswersStaySound}
+use Rattle.sound_histories.proofs.HistoryLemmas.{ReadingsStaySound}
 use Rattle.replayed_histories.specs.Replayed.{AreReplaysKept}
 use Rattle.replayed_histories.specs.Unsaved.{AsksNoCheckpoint, StaysCheckpoint}
 use Rattle.journal_fronts.specs.Fronts.{entries_at, HasSwitched, Switches}
@@ -107,7 +107,7 @@ module _ (replays : AreReplaysKept) (stays : StaysCheckpoint) (sounds : IsKept I
       next-opened calls n runs.1 ran.1 at to count next.well others.1 runs.3 ran.3 is (comes-same sources s call runs.1 ran.1 runs.2 ran.2)
       (λ led. front-opened calls n runs.1 at to count next.well others.1 runs.3 led is)
 
-pub fronts-opened : AreReplaysKept → StaysCheckpoint → AnswersStaySound → FrontsCanBeOpened
+pub fronts-opened : AreReplaysKept → StaysCheckpoint → ReadingsStaySound → FrontsCanBeOpened
 fronts-opened replays stays answers sources start calls outcome count sound replayed others runs whole most =
     front-opened replays stays (changes-sound answers) sources calls whole.made (Standing start) whole.outcome outcome count (record { sound = sound; replayed = replayed }) others runs
     whole.runs whole.count_is

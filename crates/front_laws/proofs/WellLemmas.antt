@@ -15,9 +15,10 @@ use Rattle.library_steps.specs.Change.{Change, changed}
 use Rattle.library_steps.specs.Step.{change, step}
 use Rattle.library_steps.specs.History.{is_running, Outcome, Standing, Failed, Comes, Runs}
 use Rattle.joint_state.specs.Sound.{IsSound, Does, IsKept, after}
+use Rattle.joint_state.proofs.ReadLemmas.{own-read}
 use Rattle.restart_model.specs.Libraries.{journal_with}
 use Rattle.restart_model.specs.Sources.{descriptions}
-use Rattle.sound_histories.proofs.HistoryLemmas.{AnswersStaySound}
+use Rattle.sound_histories.proofs.HistoryLemmas.{ReadingsStaySound}
 use Rattle.replayed_histories.specs.Replayed.{AreReplaysKept, IsLeftBy, IsReplayed}
 use Rattle.replayed_histories.specs.Unsaved.{AsksNoCheckpoint, StaysCheckpoint, saves}
 use Rattle.replayed_histories.proofs.ListLemmas.{drop-none}
@@ -51,10 +52,10 @@ pub at-opened : (at : Outcome) → IsWellAt at → CanBeOpened (entries_at at)
 at-opened (Standing s) well = well-opened s well
 at-opened (Failed entries) opened = opened
 
--- what leaves each answer sound leaves each change sound
-pub changes-sound : AnswersStaySound → IsKept IsSound
+-- what leaves each answer sound, whatever was read, leaves each change sound
+pub changes-sound : ReadingsStaySound → IsKept IsSound
 changes-sound answers s done d =
-    answers d.sources s (after s done) d.job d.timestamp d.request done.reply d.sound d.running (inl (ap (changed s) (sym d.does)))
+    answers d.sources d.read s (after s done) d.job d.timestamp d.request done.reply d.sound d.reads d.running (inl (ap (changed s) (sym d.does)))
 
 -- ---- where calls lead
 
@@ -80,7 +81,9 @@ module _ (replays : AreReplaysKept) (stays : StaysCheckpoint) (sounds : IsKept I
   module _ (s : State) (well : IsWell s) (job timestamp : ℕ) (request : Request) (running : IsTrue (is_running (job_at job s.jobs))) (other : saves request ≡ false) where
     done-well : (done : Change) → change sources s.entries (memory_of s) job timestamp request ≡ Ok done → IsWell (after s done)
     done-well done does =
-        let d : Does s done = record { sound = well.sound; sources = sources; job = job; timestamp = timestamp; request = request; running = running; does = does } in
+        let d : Does s done =
+        record { sound = well.sound; sources = sources; job = job; timestamp = timestamp; request = request; running = running; read = s.entries; reads = own-read s well.sound; does = does }
+        in
         record { sound = sounds s done d; replayed = replays s done d (stays s done d other ∙ well.replayed.checkpoint) well.replayed }
 
     -- no receiver goes

@@ -8,7 +8,8 @@ use Rattle.library_steps.specs.State.{State, begun, empty_library, memory_of, jo
 use Rattle.library_steps.specs.Change.{Change, changed}
 use Rattle.library_steps.specs.Step.{change, MayAnswer}
 use Rattle.library_steps.specs.History.{is_running, Outcome, Standing, Failed, Comes, Runs}
-use Rattle.joint_state.specs.Sound.{IsSound, after}
+use Rattle.joint_state.specs.Sound.{Does, IsSound, after}
+use Rattle.joint_state.proofs.ReadLemmas.{own-read}
 use Rattle.key_state.specs.Keys.{KeysStand}
 use Rattle.keys_kept.specs.KeysKept.{AreKeysKept, HasUniqueKeys, all_rolled_back}
 use Rattle.sound_histories.specs.Reached.{IsReached}
@@ -38,7 +39,11 @@ module _ (sources : List NamedSource) (start : State) (sound : (calls : List Cal
       → MayAnswer sources s job timestamp request reply t → Stands t
   answer-stands s t job timestamp request reply sound_now stand running (inl is) =
       changed-stands s t reply (change sources s.entries (memory_of s) job timestamp request) stand
-      (λ done does. kept s done (record { sound = sound_now; sources = sources; job = job; timestamp = timestamp; request = request; running = running; does = does }) stand)
+      (λ done does.
+      let d : Does s done =
+      record { sound = sound_now; sources = sources; job = job; timestamp = timestamp; request = request; running = running; read = s.entries; reads = own-read s sound_now; does = does }
+      in
+      kept s done d stand)
       is
   answer-stands s t job timestamp request reply sound_now stand running (inr same) = subst Stands (sym same.0) stand
 

@@ -2,6 +2,7 @@
 use Rattle.std.proofs.Common.{◌≡◌, ◌⊎◌, inl, inr, ◌∙◌, ℕ, ◌+◌, ◌==◌, nat_le, if◌then◌else◌, cond, not, true, false, List, [], ◌∷◌, ◌++◌, length, slice_get, Option, Some, None, is_some, unwrap_or, subst, refl, sym, ap}
 use Rattle.std.specs.List.{list_any}
 use Rattle.std.proofs.lemmas.Bool.{true≢false, cases_eq}
+use Rattle.entry_codec.specs.declared.entries.Entry.{Entry}
 use Rattle.entry_codec.specs.declared.kinds.EntryKind.{EntryKind}
 use Rattle.entry_codec.specs.declared.kinds.EntryKind.TheVariants.{MemberCleared, MemberReorganized}
 use Rattle.member_slots.specs.declared.slot.Slot.{Slot}
@@ -300,11 +301,11 @@ end_journaling-keys s job timestamp args =
 pub change_journal-keys : (s : State) (job timestamp : ℕ) → Holds (change_journal (memory_of s) job timestamp) (KeysStay s)
 change_journal-keys s job timestamp = effect-holds _ _ (KeysStay s) (λ number. files-stay s _ refl (λ format over. over) refl)
 
-pub delete_receiver-keys : (s : State) (args : DeleteReceiver) → Holds (delete_receiver s.entries (memory_of s) args) (KeysStay s)
-delete_receiver-keys s args = effect-holds _ _ (KeysStay s) (λ last. files-stay s _ refl (λ format over. over) refl)
+pub delete_receiver-keys : (s : State) (read : List Entry) (args : DeleteReceiver) → Holds (delete_receiver read (memory_of s) args) (KeysStay s)
+delete_receiver-keys s read args = effect-holds _ _ (KeysStay s) (λ last. files-stay s _ refl (λ format over. over) refl)
 
 pub save-keys : (s : State) → Holds (save (memory_of s)) (KeysStay s)
 save-keys s = effect-holds _ _ (KeysStay s) (λ sequence. files-stay s _ refl (λ format over. over) refl)
 
-pub display_journal-keys : (s : State) (args : DisplayJournal) → Holds (display_journal s.entries (memory_of s) args) (KeysStay s)
-display_journal-keys s args = effect-holds _ _ (KeysStay s) (λ shown. files-stay s _ refl (λ format over. over) refl)
+pub display_journal-keys : (s : State) (read : List Entry) (args : DisplayJournal) → Holds (display_journal read (memory_of s) args) (KeysStay s)
+display_journal-keys s read args = effect-holds _ _ (KeysStay s) (λ shown. files-stay s _ refl (λ format over. over) refl)

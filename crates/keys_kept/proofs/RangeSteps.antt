@@ -75,15 +75,15 @@ range-keys s work allows =
     (subst (λ (n : ℕ). IsUnique format (λ place. slot_of (member_of n (with_range work.range work.done (memory_of s)).members).slots place)) is
     (apart-own (memory_of s) (with_range work.range work.done (memory_of s)) work.range.status.number allows.apart format over is)))
 
-module _ (s : State) (job timestamp : ℕ) (args : JournaledChanges) where
-  pub apply-keys : Holds (apply_changes s.entries (memory_of s) job timestamp args) (KeysStay s)
+module _ (s : State) (read : List Entry) (job timestamp : ℕ) (args : JournaledChanges) where
+  pub apply-keys : Holds (apply_changes read (memory_of s) job timestamp args) (KeysStay s)
   apply-keys =
-      does-holds (range_change (memory_of s)) (apply_plan s.entries (memory_of s) job timestamp args) (KeysStay s)
-      (wider-holds (apply_plan s.entries (memory_of s) job timestamp args) (IsAllowed (memory_of s)) _ (λ work allows. range-keys s work allows)
-      (apply-allowed s.entries (memory_of s) job timestamp args))
+      does-holds (range_change (memory_of s)) (apply_plan read (memory_of s) job timestamp args) (KeysStay s)
+      (wider-holds (apply_plan read (memory_of s) job timestamp args) (IsAllowed (memory_of s)) _ (λ work allows. range-keys s work allows)
+      (apply-allowed read (memory_of s) job timestamp args))
 
-  pub remove-keys : Holds (remove_changes s.entries (memory_of s) job timestamp args) (KeysStay s)
+  pub remove-keys : Holds (remove_changes read (memory_of s) job timestamp args) (KeysStay s)
   remove-keys =
-      does-holds (range_change (memory_of s)) (remove_plan s.entries (memory_of s) job timestamp args) (KeysStay s)
-      (wider-holds (remove_plan s.entries (memory_of s) job timestamp args) (IsAllowed (memory_of s)) _ (λ work allows. range-keys s work allows)
-      (remove-allowed s.entries (memory_of s) job timestamp args))
+      does-holds (range_change (memory_of s)) (remove_plan read (memory_of s) job timestamp args) (KeysStay s)
+      (wider-holds (remove_plan read (memory_of s) job timestamp args) (IsAllowed (memory_of s)) _ (λ work allows. range-keys s work allows)
+      (remove-allowed read (memory_of s) job timestamp args))

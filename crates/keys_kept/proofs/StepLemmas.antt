@@ -1,5 +1,6 @@
 -- What each request leaves of the keys, and so what holds of them after whatever is done to a sound library.
 use Rattle.std.proofs.Common.{inl, ℕ, List, refl}
+use Rattle.entry_codec.specs.declared.entries.Entry.{Entry}
 use Rattle.library_model.specs.declared.requests.Request.{Request}
 use Rattle.library_model.specs.declared.requests.Request.TheVariants as request
 use Rattle.library_model.specs.declared.sources.NamedSource.{NamedSource}
@@ -18,8 +19,8 @@ use Rattle.keys_kept.proofs.RangeSteps.{apply-keys, remove-keys}
 use Rattle.keys_kept.proofs.RecordSteps.{delete-keys, update-keys, write-keys}
 use Rattle.keys_kept.proofs.StateLemmas.{places-of}
 
-module _ (s : State) (sources : List NamedSource) (job timestamp : ℕ) (sound : IsSound s) (asks : IsAsking s job) where
-  change-keys : (r : Request) → Holds (change sources s.entries (memory_of s) job timestamp r) (KeysStay s)
+module _ (s : State) (sources : List NamedSource) (job timestamp : ℕ) (sound : IsSound s) (asks : IsAsking s job) (read : List Entry) where
+  change-keys : (r : Request) → Holds (change sources read (memory_of s) job timestamp r) (KeysStay s)
   unfolding change
   change-keys (request.CreatePhysicalFile args) = create-keys s sources job timestamp sound args
   change-keys (request.CreateLogicalFile args) = create_logical-keys s sources job timestamp args
@@ -30,11 +31,11 @@ module _ (s : State) (sources : List NamedSource) (job timestamp : ℕ) (sound :
   change-keys (request.StartJournaling args) = start_journaling-keys s job timestamp args
   change-keys (request.EndJournaling args) = end_journaling-keys s job timestamp args
   change-keys request.ChangeJournal = change_journal-keys s job timestamp
-  change-keys (request.DeleteReceiver args) = delete_receiver-keys s args
+  change-keys (request.DeleteReceiver args) = delete_receiver-keys s read args
   change-keys request.Checkpoint = save-keys s
-  change-keys (request.DisplayJournal args) = display_journal-keys s args
-  change-keys (request.ApplyChanges args) = apply-keys s job timestamp args
-  change-keys (request.RemoveChanges args) = remove-keys s job timestamp args
+  change-keys (request.DisplayJournal args) = display_journal-keys s read args
+  change-keys (request.ApplyChanges args) = apply-keys s read job timestamp args
+  change-keys (request.RemoveChanges args) = remove-keys s read job timestamp args
   change-keys (request.StartCommitment args) = start_commitment-keys s job asks timestamp args
   change-keys request.EndCommitment = end_commitment-keys s job asks timestamp
   change-keys request.Commit = commit-keys s job asks timestamp
@@ -58,8 +59,8 @@ module _ (s : State) (sources : List NamedSource) (job timestamp : ℕ) (sound :
 pub keys-kept : IsKept IsLibrary → AreKeysKept
 keys-kept kept s done d stand =
     let later = places-of (after s done) (kept s done d).changes in
-    let stands = holds-done (change d.sources s.entries (memory_of s) d.job d.timestamp d.request) (KeysStay s) done d.does
-    (change-keys s d.sources d.job d.timestamp d.sound (asking s d.job d.sound.joint d.running) d.request)
+    let stands = holds-done (change d.sources d.read (memory_of s) d.job d.timestamp d.request) (KeysStay s) done d.does
+    (change-keys s d.sources d.job d.timestamp d.sound (asking s d.job d.sound.joint d.running) d.read d.request)
     (places-of s d.sound.library.changes) (record { places = later.places }) stand in
     quiet-stands done.memory (memory_of (after s done)) (record { places = later.places }) later stands
     (record { changes = λ job. inl refl; formats = λ format over. inl (over, λ place. refl) })

@@ -15,10 +15,10 @@ pub rollback-kept : (s : State) (done : Change) (d : Does s done) → d.request 
 unfolding change
 rollback-kept s done d is r =
     rollback-replayed s r d.sound d.job d.timestamp (job-there s d.job d.running) done
-    (subst (λ (request : Request). change d.sources s.entries (memory_of s) d.job d.timestamp request ≡ Ok done) is d.does)
+    (subst (λ (request : Request). change d.sources d.read (memory_of s) d.job d.timestamp request ≡ Ok done) is d.does)
 
 pub end_job-kept : (s : State) (done : Change) (d : Does s done) (args : EndedJob) → d.request ≡ EndJob args → IsReplayed s → IsReplayed (after s done)
 unfolding change
 end_job-kept s done d args is r =
     end_job-replayed s r d.sound d.job d.timestamp (job-there s d.job d.running) done
-    (subst (λ (request : Request). change d.sources s.entries (memory_of s) d.job d.timestamp request ≡ Ok done) is d.does)
+    (subst (λ (request : Request). change d.sources d.read (memory_of s) d.job d.timestamp request ≡ Ok done) is d.does)

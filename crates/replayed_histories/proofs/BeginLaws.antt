@@ -14,4 +14,4 @@ pub start_journaling-kept : (s : State) (done : Change) (d : Does s done) (args 
 unfolding change
 start_journaling-kept s done d args is r =
     start_journaling-replayed s d.sound r d.job d.timestamp args done
-    (subst (λ (request : Request). change d.sources s.entries (memory_of s) d.job d.timestamp request ≡ Ok done) is d.does)
+    (subst (λ (request : Request). change d.sources d.read (memory_of s) d.job d.timestamp request ≡ Ok done) is d.does)

@@ -1,5 +1,6 @@
 -- No request but CHKPT moves the checkpoint.
 use Rattle.std.proofs.Common.{◌≡◌, ℕ, ◌+◌, Bool, true, false, List, [], ◌∷◌, Result, Ok, refl, sym, ap, ◌∙◌}
+use Rattle.entry_codec.specs.declared.entries.Entry.{Entry}
 use Rattle.entry_codec.specs.declared.kinds.EntryKind.TheVariants.{MemberCleared, MemberReorganized}
 use Rattle.member_slots.specs.Member.{cleared, reorganized}
 use Rattle.journal_model.specs.Replay.{before_of}
@@ -58,43 +59,44 @@ module _ (s : State) where
       undo-checkpoint new.opened.commit job (change_made m (job_of job m) new) (cycle_for m (job_of job m))
       (with_status new.opened.member touched (with_slot new.opened.member new.rrn new.slot m))
 
-  by_request : (sources : List NamedSource) (job timestamp : ℕ) (request : Request) (done : Change) → saves request ≡ false → change sources s.entries m job timestamp request ≡ Ok done → Stays done
+  by_request : (read : List Entry) (sources : List NamedSource) (job timestamp : ℕ) (request : Request) (done : Change) → saves request ≡ false
+      → change sources read m job timestamp request ≡ Ok done → Stays done
   unfolding change
-  by_request sources job timestamp (CreatePhysicalFile args) done other h = stays (create_change m job timestamp args) _ done (λ x. refl) h
-  by_request sources job timestamp (CreateLogicalFile args) done other h = stays (create_logical_change m job timestamp args) _ done (λ x. refl) h
-  by_request sources job timestamp (DeleteFile args) done other h = stays (files.delete_change m job timestamp args) _ done (λ x. refl) h
-  by_request sources job timestamp (AddMember args) done other h = does-each _ (add_plan m args) done Stays h (λ x is. refl)
-  by_request sources job timestamp (ClearMember args) done other h = stays (renumbering m job timestamp MemberCleared cleared) _ done (λ x. refl) h
-  by_request sources job timestamp (ReorganizeMember args) done other h = stays (renumbering m job timestamp MemberReorganized reorganized) _ done (λ x. refl) h
-  by_request sources job timestamp (StartJournaling args) done other h = stays (journaling.start_change m job timestamp args) _ done (λ x. refl) h
-  by_request sources job timestamp (EndJournaling args) done other h = stays (journaling.end_change m job timestamp) _ done (λ x. refl) h
-  by_request sources job timestamp ChangeJournal done other h = stays (attach_change m job timestamp) _ done (λ x. refl) h
-  by_request sources job timestamp (DeleteReceiver args) done other h = does-each _ (give_up_plan s.entries m args) done Stays h (λ x is. refl)
-  by_request sources job timestamp Checkpoint done other h = absurd cc
-  by_request sources job timestamp (DisplayJournal args) done other h = does-each _ (display_plan s.entries m args) done Stays h (λ x is. refl)
-  by_request sources job timestamp (ApplyChanges args) done other h = stays (range_change m) _ done (λ x. refl) h
-  by_request sources job timestamp (RemoveChanges args) done other h = stays (range_change m) _ done (λ x. refl) h
-  by_request sources job timestamp (StartCommitment args) done other h = does-each _ (commitment.start_plan m job) done Stays h (λ x is. refl)
-  by_request sources job timestamp EndCommitment done other h = does-each _ (commitment.end_plan m job) done Stays h (λ x is. refl)
-  by_request sources job timestamp Commit done other h = does-each (λ level. commit_change m job timestamp) (found (job_of job m).level NoDefinition) done Stays h (λ x is. refl)
-  by_request sources job timestamp Rollback done other h =
+  by_request read sources job timestamp (CreatePhysicalFile args) done other h = stays (create_change m job timestamp args) _ done (λ x. refl) h
+  by_request read sources job timestamp (CreateLogicalFile args) done other h = stays (create_logical_change m job timestamp args) _ done (λ x. refl) h
+  by_request read sources job timestamp (DeleteFile args) done other h = stays (files.delete_change m job timestamp args) _ done (λ x. refl) h
+  by_request read sources job timestamp (AddMember args) done other h = does-each _ (add_plan m args) done Stays h (λ x is. refl)
+  by_request read sources job timestamp (ClearMember args) done other h = stays (renumbering m job timestamp MemberCleared cleared) _ done (λ x. refl) h
+  by_request read sources job timestamp (ReorganizeMember args) done other h = stays (renumbering m job timestamp MemberReorganized reorganized) _ done (λ x. refl) h
+  by_request read sources job timestamp (StartJournaling args) done other h = stays (journaling.start_change m job timestamp args) _ done (λ x. refl) h
+  by_request read sources job timestamp (EndJournaling args) done other h = stays (journaling.end_change m job timestamp) _ done (λ x. refl) h
+  by_request read sources job timestamp ChangeJournal done other h = stays (attach_change m job timestamp) _ done (λ x. refl) h
+  by_request read sources job timestamp (DeleteReceiver args) done other h = does-each _ (give_up_plan read m args) done Stays h (λ x is. refl)
+  by_request read sources job timestamp Checkpoint done other h = absurd cc
+  by_request read sources job timestamp (DisplayJournal args) done other h = does-each _ (display_plan read m args) done Stays h (λ x is. refl)
+  by_request read sources job timestamp (ApplyChanges args) done other h = stays (range_change m) _ done (λ x. refl) h
+  by_request read sources job timestamp (RemoveChanges args) done other h = stays (range_change m) _ done (λ x. refl) h
+  by_request read sources job timestamp (StartCommitment args) done other h = does-each _ (commitment.start_plan m job) done Stays h (λ x is. refl)
+  by_request read sources job timestamp EndCommitment done other h = does-each _ (commitment.end_plan m job) done Stays h (λ x is. refl)
+  by_request read sources job timestamp Commit done other h = does-each (λ level. commit_change m job timestamp) (found (job_of job m).level NoDefinition) done Stays h (λ x is. refl)
+  by_request read sources job timestamp Rollback done other h =
       does-each (λ level. rollback_change m job timestamp) (found (job_of job m).level NoDefinition) done Stays h (λ x is. taken-checkpoint (changes_of (job_of job m).cycle) m)
-  by_request sources job timestamp (OpenFile args) done other h = does-each _ (open_plan m job args) done Stays h (λ x is. refl)
-  by_request sources job timestamp (CloseFile args) done other h = does-each _ (named_or_refused args.open_id (open_named args.open_id job m)) done Stays h (λ x is. refl)
-  by_request sources job timestamp (SetLowerLimit args) done other h = stays (position_change m job) _ done (λ x. refl) h
-  by_request sources job timestamp (SetGreaterThan args) done other h = stays (position_change m job) _ done (λ x. refl) h
-  by_request sources job timestamp (Read args) done other h = stays (read_change m job) _ done (λ x. refl) h
-  by_request sources job timestamp (ReadPrior args) done other h = stays (read_change m job) _ done (λ x. refl) h
-  by_request sources job timestamp (ReadEqual args) done other h = stays (read_change m job) _ done (λ x. refl) h
-  by_request sources job timestamp (ReadPriorEqual args) done other h = stays (read_change m job) _ done (λ x. refl) h
-  by_request sources job timestamp (Chain args) done other h = stays (read_change m job) _ done (λ x. refl) h
-  by_request sources job timestamp (Write args) done other h = stays (write_change m job timestamp (write_call args.record_number)) _ done (λ new. slot-stays job new) h
-  by_request sources job timestamp (Update args) done other h = stays (update_change m job timestamp) _ done (λ new. slot-stays job new) h
-  by_request sources job timestamp (Delete args) done other h = stays (records.delete_change m job timestamp) _ done (λ new. slot-stays job new) h
-  by_request sources job timestamp (Unlock args) done other h = stays (unlock_change m job) _ done (λ x. refl) h
-  by_request sources job timestamp (EndJob args) done other h =
+  by_request read sources job timestamp (OpenFile args) done other h = does-each _ (open_plan m job args) done Stays h (λ x is. refl)
+  by_request read sources job timestamp (CloseFile args) done other h = does-each _ (named_or_refused args.open_id (open_named args.open_id job m)) done Stays h (λ x is. refl)
+  by_request read sources job timestamp (SetLowerLimit args) done other h = stays (position_change m job) _ done (λ x. refl) h
+  by_request read sources job timestamp (SetGreaterThan args) done other h = stays (position_change m job) _ done (λ x. refl) h
+  by_request read sources job timestamp (Read args) done other h = stays (read_change m job) _ done (λ x. refl) h
+  by_request read sources job timestamp (ReadPrior args) done other h = stays (read_change m job) _ done (λ x. refl) h
+  by_request read sources job timestamp (ReadEqual args) done other h = stays (read_change m job) _ done (λ x. refl) h
+  by_request read sources job timestamp (ReadPriorEqual args) done other h = stays (read_change m job) _ done (λ x. refl) h
+  by_request read sources job timestamp (Chain args) done other h = stays (read_change m job) _ done (λ x. refl) h
+  by_request read sources job timestamp (Write args) done other h = stays (write_change m job timestamp (write_call args.record_number)) _ done (λ new. slot-stays job new) h
+  by_request read sources job timestamp (Update args) done other h = stays (update_change m job timestamp) _ done (λ new. slot-stays job new) h
+  by_request read sources job timestamp (Delete args) done other h = stays (records.delete_change m job timestamp) _ done (λ new. slot-stays job new) h
+  by_request read sources job timestamp (Unlock args) done other h = stays (unlock_change m job) _ done (λ x. refl) h
+  by_request read sources job timestamp (EndJob args) done other h =
       let e : jobs.end_change m job timestamp ≡ done = cc in
       sym (ap (λ (c : Change). c.memory.checkpoint) e) ∙ taken-checkpoint (changes_of (job_of job m).cycle) m
 
 pub checkpoint-stays : StaysCheckpoint
-checkpoint-stays s done d other = by_request s d.sources d.job d.timestamp d.request done other d.does
+checkpoint-stays s done d other = by_request s d.read d.sources d.job d.timestamp d.request done other d.does

@@ -11,6 +11,7 @@ use Rattle.library_steps.specs.State.{State, begun, empty_library, job_at, memor
 use Rattle.library_steps.specs.Step.{change}
 use Rattle.library_kept.proofs.EmptyLemmas.{begun-sound}
 use Rattle.joint_state.specs.Sound.{Does, IsKept, IsSound, after}
+use Rattle.joint_state.proofs.ReadLemmas.{own-read}
 use Rattle.replayed_histories.specs.Replayed.{IsReplayed}
 use Rattle.replayed_histories.specs.Unsaved.{AreHistoriesReplayed, saves}
 use Rattle.replayed_histories.proofs.CheckpointLemmas.{checkpoint-stays}
@@ -38,7 +39,17 @@ module _ (P : Request → Type 0) (replays : (s : State) (done : Change) (d : Do
       changed-well s t call.reply (change sources s.entries (memory_of s) call.job call.timestamp call.request) well
       (λ done does.
       let d : Does s done =
-      record { sound = well.sound; sources = sources; job = call.job; timestamp = call.timestamp; request = call.request; running = running; does = does }
+      record {
+        sound = well.sound;
+        sources = sources;
+        job = call.job;
+        timestamp = call.timestamp;
+        request = call.request;
+        running = running;
+        read = s.entries;
+        reads = own-read s well.sound;
+        does = does;
+      }
       in
       record { sound = sounds s done d; replayed = replays s done d its well.replayed })
       is

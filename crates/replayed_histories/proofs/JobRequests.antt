@@ -1,6 +1,7 @@
 -- Requests of which the journal tells nothing that a replay reads: reads, opens, locks, commitment control, receivers that are attached.
 use Rattle.std.proofs.Common.{◌≡◌, ℕ, ◌+◌, Bool, true, false, List, [], ◌∷◌, map, length, Some, None, Result, Ok, refl}
 use Rattle.std.specs.List.{AllByRecursion}
+use Rattle.entry_codec.specs.declared.entries.Entry.{Entry}
 use Rattle.entry_codec.specs.declared.kinds.EntryKind.{EntryKind}
 use Rattle.entry_codec.specs.declared.kinds.EntryKind.TheVariants.{CommitmentEnded, CommitmentStarted, NextReceiver, PreviousReceiver}
 use Rattle.lock_table.specs.declared.lock.Lock.{Lock}
@@ -114,7 +115,7 @@ module _ (s : State) (r : IsReplayed s) where
       does-each (save_change (memory_of s)) (save_plan (memory_of s)) done (λ c. c.memory.checkpoint ≡ 0 → IsReplayed (after s c)) h
       (λ sequence is none. quiet-replayed nobody [] true Done (record (memory_of s) { checkpoint = sequence }) tt refl none refl r.stands)
 
-  pub display_journal-replayed : (args : DisplayJournal) (done : Change) → display_journal s.entries (memory_of s) args ≡ Ok done → IsReplayed (after s done)
-  display_journal-replayed args done h =
-      does-each _ (display_plan s.entries (memory_of s) args) done (λ c. IsReplayed (after s c)) h
+  pub display_journal-replayed : (read : List Entry) (args : DisplayJournal) (done : Change) → display_journal read (memory_of s) args ≡ Ok done → IsReplayed (after s done)
+  display_journal-replayed read args done h =
+      does-each _ (display_plan read (memory_of s) args) done (λ c. IsReplayed (after s c)) h
       (λ shown is. quiet-replayed nobody [] true Done (memory_of s) tt refl r.checkpoint refl r.stands)

@@ -52,7 +52,7 @@ use Rattle.library_steps.specs.State.{FileState, Memory, MemberStatus, State, fi
 use Rattle.library_steps.specs.UniqueKeys.{all_apart, unique_paths}
 use Rattle.library_steps.specs.Uses.{unused, user_of}
 use Rattle.joint_state.specs.Agreed.{is_journaled}
-use Rattle.joint_state.specs.Sound.{IsSound}
+use Rattle.joint_state.specs.Sound.{IsSound, MayBeRead}
 use Rattle.joint_state.specs.Told.{IsTold}
 
 -- ---- the status that two names find is the one that its number finds
@@ -237,24 +237,25 @@ some-images : {A : Type 0} (o : Option A) → is_none o ≡ false → is_some o 
 some-images None e = absurd cc
 some-images (Some a) e = refl
 
-range-of : (s : State) (args : JournaledChanges) (first last : RangeEnd) (range : Range) → IsSound s → range_named args first last s.entries (memory_of s) ≡ Ok range → IsOf s range
-range-of s args first last range sound h =
+range-of : (s : State) (read : List Entry) (args : JournaledChanges) (first last : RangeEnd) (range : Range) → IsSound s → MayBeRead s read
+    → range_named args first last read (memory_of s) ≡ Ok range → IsOf s range
+range-of s read args first last range sound reads h =
     let m = memory_of s in
     let left = bind-ok (sequences_left m) _ range h in
     let it = bind-ok (member_of_file args.file args.member m) _ range left.2 in
     let number = it.0.status.number in
-    let from = end_named first number s.entries m in
-    let to = end_named last number s.entries m in
+    let from = end_named first number read m in
+    let to = end_named last number read m in
     let free = bind-ok (unused (user_of number m)) _ range it.2 in
     let journaled = bind-ok (refuse_if (is_none it.0.status.images) (replies.NotJournaled number)) _ range free.2 in
     let there = bind-ok (are_there from to m) _ range journaled.2 in
     let kept = bind-ok (are_kept from m) _ range there.2 in
     let has = named-member s args.file args.member it.0 sound it.1 in
     let is = member-is args.file args.member m it.0 it.1 in
-    let tells = each-weaker (IsTold s.files) (TellsOf (fields_of it.0.file) number) s.entries (λ e told named. told args.file it.0.file number has.owns named) sound.joint.told.records in
-    let before = take (from - first_kept m) s.entries in
-    let between = entries_between from to m s.entries in
-    subst (IsOf s) (ok-equal (range_between it.0.status from to s.entries m) range kept.2) (record {
+    let tells = each-weaker (IsTold s.files) (TellsOf (fields_of it.0.file) number) read (λ e told named. told args.file it.0.file number has.owns named) reads.told in
+    let before = take (from - first_kept m) read in
+    let between = entries_between from to m read in
+    subst (IsOf s) (ok-equal (range_between it.0.status from to read m) range kept.2) (record {
       name = args.file;
       file = it.0.file;
       owns = has.owns;
@@ -263,9 +264,9 @@ range-of s args first last range sound h =
           (status-found s.files args.file args.member it.0.file it.0.status sound.names sound.apart has.owns is.1)
           ∙ some-images it.0.status.images (not-refused _ _ journaled.0 journaled.1);
       acts = acts-fit (fields_of it.0.file) number (entry_before None before) between
-          (entry_before-tells (fields_of it.0.file) number None before tt (each-take (TellsOf (fields_of it.0.file) number) (from - first_kept m) s.entries tells))
-          (each-take (TellsOf (fields_of it.0.file) number) (to + 1 - from) (drop (from - first_kept m) s.entries)
-          (each-drop (TellsOf (fields_of it.0.file) number) (from - first_kept m) s.entries tells));
+          (entry_before-tells (fields_of it.0.file) number None before tt (each-take (TellsOf (fields_of it.0.file) number) (from - first_kept m) read tells))
+          (each-take (TellsOf (fields_of it.0.file) number) (to + 1 - from) (drop (from - first_kept m) read)
+          (each-drop (TellsOf (fields_of it.0.file) number) (from - first_kept m) read tells));
       live = acts-live number (entry_before None before) between;
     })
 
@@ -317,14 +318,15 @@ pub record IsMade (s : State) (job timestamp : ℕ) (work : RangeWork) (kind : R
   pub same : work_of (author_of (memory_of s) job timestamp) kind given range (memory_of s) done ≡ work
   pub is : IsWork s (work_of (author_of (memory_of s) job timestamp) kind given range (memory_of s) done) (kind done) (given done)
 
-pub apply-made : (s : State) (job timestamp : ℕ) (args : JournaledChanges) (work : RangeWork) → IsSound s → apply_plan s.entries (memory_of s) job timestamp args ≡ Ok work
+pub apply-made : (s : State) (read : List Entry) (job timestamp : ℕ) (args : JournaledChanges) (work : RangeWork) → IsSound s → MayBeRead s read
+    → apply_plan read (memory_of s) job timestamp args ≡ Ok work
     → IsMade s job timestamp work applied_kind (λ d. given_forward d.changes)
 unfolding apply_plan
-apply-made s job timestamp args work sound h =
+apply-made s read job timestamp args work sound reads h =
     let m = memory_of s in
-    let range = bind-ok (range_named args args.from args.to s.entries m) _ work h in
+    let range = bind-ok (range_named args args.from args.to read m) _ work h in
     let did = bind-ok (done_or_refused (apply_range range.0.first range.0.acts (slots_now range.0 m))) _ work range.2 in
-    let of = range-of s args args.from args.to range.0 sound range.1 in
+    let of = range-of s read args args.from args.to range.0 sound reads range.1 in
     let walked = done-is _ did.0 did.1 in
     let fits = apply_range-fits (fields_of of.file) range.0.first range.0.acts (slots_now range.0 m) did.0 of.acts (slots-fit s of.name of.file range.0.status.number sound of.owns) walked in
     let went = apply_range-went range.0.first range.0.acts (slots_now range.0 m) did.0 walked in
@@ -345,14 +347,15 @@ apply-made s job timestamp args work sound h =
       };
     }
 
-pub remove-made : (s : State) (job timestamp : ℕ) (args : JournaledChanges) (work : RangeWork) → IsSound s → remove_plan s.entries (memory_of s) job timestamp args ≡ Ok work
+pub remove-made : (s : State) (read : List Entry) (job timestamp : ℕ) (args : JournaledChanges) (work : RangeWork) → IsSound s → MayBeRead s read
+    → remove_plan read (memory_of s) job timestamp args ≡ Ok work
     → IsMade s job timestamp work removed_kind (λ d. given_back d.changes)
 unfolding remove_plan
-remove-made s job timestamp args work sound h =
+remove-made s read job timestamp args work sound reads h =
     let m = memory_of s in
-    let range = bind-ok (range_named args args.to args.from s.entries m) _ work h in
+    let range = bind-ok (range_named args args.to args.from read m) _ work h in
     let did = bind-ok (done_or_refused (remove_range range.0.first range.0.acts (slots_now range.0 m))) _ work range.2 in
-    let of = range-of s args args.to args.from range.0 sound range.1 in
+    let of = range-of s read args args.to args.from range.0 sound reads range.1 in
     let walked = done-is _ did.0 did.1 in
     let fits = remove_range-fits (fields_of of.file) range.0.first range.0.acts (slots_now range.0 m) did.0 of.acts (slots-fit s of.name of.file range.0.status.number sound of.owns) walked in
     let went = remove_range-went range.0.first range.0.acts (slots_now range.0 m) did.0 walked in

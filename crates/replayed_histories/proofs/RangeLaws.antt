@@ -13,11 +13,11 @@ use Rattle.replayed_histories.proofs.RangeRequests.{apply_changes-replayed, remo
 pub apply_changes-kept : (s : State) (done : Change) (d : Does s done) (args : JournaledChanges) → d.request ≡ ApplyChanges args → IsReplayed s → IsReplayed (after s done)
 unfolding change
 apply_changes-kept s done d args is r =
-    apply_changes-replayed s d.sound r d.job d.timestamp args done
-    (subst (λ (request : Request). change d.sources s.entries (memory_of s) d.job d.timestamp request ≡ Ok done) is d.does)
+    apply_changes-replayed s d.sound r d.job d.timestamp d.read d.reads args done
+    (subst (λ (request : Request). change d.sources d.read (memory_of s) d.job d.timestamp request ≡ Ok done) is d.does)
 
 pub remove_changes-kept : (s : State) (done : Change) (d : Does s done) (args : JournaledChanges) → d.request ≡ RemoveChanges args → IsReplayed s → IsReplayed (after s done)
 unfolding change
 remove_changes-kept s done d args is r =
-    remove_changes-replayed s d.sound r d.job d.timestamp args done
-    (subst (λ (request : Request). change d.sources s.entries (memory_of s) d.job d.timestamp request ≡ Ok done) is d.does)
+    remove_changes-replayed s d.sound r d.job d.timestamp d.read d.reads args done
+    (subst (λ (request : Request). change d.sources d.read (memory_of s) d.job d.timestamp request ≡ Ok done) is d.does)

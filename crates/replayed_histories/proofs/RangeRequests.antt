@@ -43,7 +43,7 @@ use Rattle.library_steps.specs.Ranges.{Given, RangeWork, apply_changes, apply_pl
 use Rattle.library_steps.specs.State.{FileState, State, fields_of, memory_of}
 use Rattle.library_steps.specs.Uses.{user_of}
 use Rattle.joint_state.specs.Agreed.{is_journaled}
-use Rattle.joint_state.specs.Sound.{IsSound, after}
+use Rattle.joint_state.specs.Sound.{IsSound, MayBeRead, after}
 use Rattle.lawful_states.specs.Owners.{Owns}
 use Rattle.restart_model.specs.Sources.{descriptions}
 use Rattle.replayed_histories.specs.Replayed.{BeganBefore, CyclesStand, IsHeldWithin, IsOfOneOf, IsReplayed, StandsAs}
@@ -481,11 +481,12 @@ module _ (s : State) (sound : IsSound s) (r : IsReplayed s) (job timestamp : ℕ
       ∙ ap fields_of (same-file s.files m.file name home.file file m.number sound.apart home.owns (subst (Owns s.files name file) (eqb-true k m.number is) owns)))
       (homes s sound.library r)
 
-  pub apply_changes-replayed : (args : JournaledChanges) (done : steps.Change) → apply_changes s.entries (memory_of s) job timestamp args ≡ Ok done → IsReplayed (after s done)
-  apply_changes-replayed args done h =
-      does-each (range_change (memory_of s)) (apply_plan s.entries (memory_of s) job timestamp args) done (λ c. IsReplayed (after s c)) h
+  pub apply_changes-replayed : (read : List Entry) → MayBeRead s read → (args : JournaledChanges) (done : steps.Change)
+      → apply_changes read (memory_of s) job timestamp args ≡ Ok done → IsReplayed (after s done)
+  apply_changes-replayed read reads args done h =
+      does-each (range_change (memory_of s)) (apply_plan read (memory_of s) job timestamp args) done (λ c. IsReplayed (after s c)) h
       (λ work is.
-      let m = apply-made s job timestamp args work sound is in
+      let m = apply-made s read job timestamp args work sound reads is in
       let w = m.is in
       let k = m.range.status.number in
       subst (λ (x : RangeWork). IsReplayed (after s (range_change (memory_of s) x))) m.same
@@ -493,11 +494,12 @@ module _ (s : State) (sound : IsSound s) (r : IsReplayed s) (job timestamp : ℕ
       (fields_of w.file) (fields-held w.name w.file k w.owns) (slots-fit s w.name w.file k sound w.owns) (applied_kind m.done) (applied-of m.done.first m.done.last (length m.done.changes))
       (λ prior e. refl) refl refl refl refl (given_forward m.done.changes) m.done.slots (replies.Range m.done.first m.done.last (length m.done.changes)) w.went.go w.fits w.went.ends))
 
-  pub remove_changes-replayed : (args : JournaledChanges) (done : steps.Change) → remove_changes s.entries (memory_of s) job timestamp args ≡ Ok done → IsReplayed (after s done)
-  remove_changes-replayed args done h =
-      does-each (range_change (memory_of s)) (remove_plan s.entries (memory_of s) job timestamp args) done (λ c. IsReplayed (after s c)) h
+  pub remove_changes-replayed : (read : List Entry) → MayBeRead s read → (args : JournaledChanges) (done : steps.Change)
+      → remove_changes read (memory_of s) job timestamp args ≡ Ok done → IsReplayed (after s done)
+  remove_changes-replayed read reads args done h =
+      does-each (range_change (memory_of s)) (remove_plan read (memory_of s) job timestamp args) done (λ c. IsReplayed (after s c)) h
       (λ work is.
-      let m = remove-made s job timestamp args work sound is in
+      let m = remove-made s read job timestamp args work sound reads is in
       let w = m.is in
       let k = m.range.status.number in
       subst (λ (x : RangeWork). IsReplayed (after s (range_change (memory_of s) x))) m.same

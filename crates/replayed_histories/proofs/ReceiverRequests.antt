@@ -12,7 +12,7 @@ use Rattle.library_steps.specs.State.{State, memory_of}
 use Rattle.library_steps.specs.Change.{Change}
 use Rattle.library_steps.specs.Refusals.{refuse_if}
 use Rattle.library_steps.specs.Receivers.{delete_receiver, give_up_plan, is_kept, is_needed, is_number, last_in, next_receiver}
-use Rattle.joint_state.specs.Sound.{after}
+use Rattle.joint_state.specs.Sound.{MayBeRead, after}
 use Rattle.library_kept.proofs.ResultLemmas.{bind-ok, does-each, not-refused}
 use Rattle.replayed_histories.specs.Replayed.{IsReplayed}
 
@@ -30,11 +30,11 @@ second-false : (a b : Bool) → (a || b) ≡ false → b ≡ false
 second-false true b h = absurd cc
 second-false false b h = h
 
-module _ (s : State) (r : IsReplayed s) where
-  never : (number : ℕ) → is_needed number s.entries (memory_of s) ≡ false → ⊥
+module _ (s : State) (r : IsReplayed s) (read : List Entry) (reads : MayBeRead s read) where
+  never : (number : ℕ) → is_needed number read (memory_of s) ≡ false → ⊥
   never number h =
-      by (last_in number s.entries) (found-late number 1 s.entries (omega arith) r.journal.replays.so_far.later)
-      (second-false (number == s.receivers.attached) (option_map_or (λ (last : ℕ). nat_lt s.checkpoint last) (last_in number s.entries) true) h)
+      by (last_in number read) (found-late number (s.gone + 1) read (omega arith) reads.numbered)
+      (second-false (number == s.receivers.attached) (option_map_or (λ (last : ℕ). nat_lt s.checkpoint last) (last_in number read) true) h)
     where
       by : (o : Option ℕ) → IfSome o (λ (last : ℕ). 1 ≤ last) → option_map_or (λ (last : ℕ). nat_lt s.checkpoint last) o true ≡ false → ⊥
       by None late needed = absurd cc
@@ -43,11 +43,11 @@ module _ (s : State) (r : IsReplayed s) where
           let some : nat_lt 0 last ≡ true = grind (arith, nat_tests, late) in
           absurd cc
 
-  pub delete_receiver-replayed : (args : DeleteReceiver) (done : Change) → delete_receiver s.entries (memory_of s) args ≡ Ok done → IsReplayed (after s done)
+  pub delete_receiver-replayed : (args : DeleteReceiver) (done : Change) → delete_receiver read (memory_of s) args ≡ Ok done → IsReplayed (after s done)
   unfolding give_up_plan
   delete_receiver-replayed args done h =
-      does-each _ (give_up_plan s.entries (memory_of s) args) done (λ c. IsReplayed (after s c)) h
+      does-each _ (give_up_plan read (memory_of s) args) done (λ c. IsReplayed (after s c)) h
       (λ last is.
       let a = bind-ok (refuse_if (not (is_kept args.number (memory_of s))) (NoSuchName (Receiver args.number))) _ last is in
-      let b = bind-ok (refuse_if (is_needed args.number s.entries (memory_of s)) (StillNeeded (s.checkpoint + 1))) _ last a.2 in
-      absurd (never args.number (not-refused (is_needed args.number s.entries (memory_of s)) (StillNeeded (s.checkpoint + 1)) b.0 b.1)))
+      let b = bind-ok (refuse_if (is_needed args.number read (memory_of s)) (StillNeeded (s.checkpoint + 1))) _ last a.2 in
+      absurd (never args.number (not-refused (is_needed args.number read (memory_of s)) (StillNeeded (s.checkpoint + 1)) b.0 b.1)))

@@ -7,5 +7,5 @@ use Rattle.deposited_entries.proofs.deposits_are_numbered.Goals as goal
 
 pub returns : goal.returns
 returns c = λ s done d.
-    (holds-done (change d.sources s.entries (memory_of s) d.job d.timestamp d.request) (IsJournaled s) done d.does
-    (change-journaled s d.sources d.job d.timestamp d.sound d.request)).numbered
+    (holds-done (change d.sources d.read (memory_of s) d.job d.timestamp d.request) (IsJournaled s) done d.does
+    (change-journaled s d.sources d.job d.timestamp d.read d.reads d.request)).numbered
