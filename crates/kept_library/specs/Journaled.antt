@@ -1,4 +1,5 @@
--- How a library's journal stands to its state: the book comes to the state's last entry, and the store holds the state's entries. (Our own.)
+-- How a library's journal and its memory stand to its state: the book comes to the state's last entry, the store holds the state's entries, and the memory
+-- has all else. (Our own.)
 use Rattle.std.specs.Prelude.{◌≡◌, ℕ, ◌+◌, ◌<◌, ◌≤◌, length}
 use Rattle.store_model.specs.Disk.{Disk}
 use Rattle.receiver_chain.specs.Chain.{attached_of}
@@ -9,6 +10,8 @@ use Rattle.deposited_entries.specs.Counted.{IsCounted}
 use Rattle.deposited_entries.specs.Groups.{GroupsWithin}
 use Rattle.deposited_entries.specs.Sequences.{SequencesSuffice}
 use Rattle.block_places.specs.Dues.{places_due}
+use Rattle.joint_state.specs.Sound.{IsSound}
+use Rattle.library_parts.specs.Remembered.{remembered}
 
 -- the book is that of the state's journal, less than a block's worth waits in it, and it has a place for each block that is due
 pub record IsBookOf (book : BookState) (s : State) : Type 0 where
@@ -32,3 +35,10 @@ pub record IsJournaled (tells : Type 0) (disk : Disk) (book : BookState) (s : St
   pub book_of : IsBookOf book s
   pub may : MayDeposit s
   pub holds : tells → Holds book s.entries disk
+
+-- between calls the memory is all of the library's state but its journal's entries; the state is sound, as each legal history leaves it, and the journal is
+-- that of the state
+pub record IsRemembered (tells : Type 0) (disk : Disk) (book : BookState) (m s : State) : Type 0 where
+  pub memory : m ≡ remembered s
+  pub sound : IsSound s
+  pub journaled : IsJournaled tells disk book s

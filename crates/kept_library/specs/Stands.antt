@@ -1,36 +1,52 @@
 -- What a library is of a state, and what a call makes of it. (Our own.)
 use Rattle.std.specs.Prelude.{◌≡◌, ℕ, true, false, IsTrue, if◌then◌else◌, List, length}
+use Rattle.store_model.specs.Disk.{Disk}
 use Rattle.entry_codec.specs.declared.entries.Entry.{Entry}
 use Rattle.library_model.specs.declared.calls.Call.{Call}
+use Rattle.library_model.specs.declared.replies.Reply.TheVariants.{StoreFault}
 use Rattle.library_model.specs.declared.requests.Request.{Request}
 use Rattle.library_model.specs.declared.sources.NamedSource.{NamedSource}
-use Rattle.library_steps.specs.State.{State, job_at}
-use Rattle.library_steps.specs.History.{is_running, Outcome, Standing, Failed, Comes}
+use Rattle.library_steps.specs.State.{State, job_at, memory_of}
+use Rattle.library_steps.specs.Change.{changed}
+use Rattle.library_steps.specs.Step.{change}
+use Rattle.library_steps.specs.History.{is_running, Outcome, Standing, Failed}
 use Rattle.deposited_entries.specs.Deposits.{switches}
-use Rattle.joint_state.specs.Sound.{IsSound}
+use Rattle.joint_state.specs.Sound.{MayBeRead, MayAnswerReading}
+use Rattle.kept_library.specs.Journaled.{IsRemembered}
 use Rattle.kept_library.specs.Parts.{LibraryOver}
 
--- the library has the state
-pub record Stands {S : Type 0} (library : LibraryOver S) (s : State) : Type 0 where
+-- the library has the state: what is in memory and what stands on the disk make it up. Over a store that tells nothing of its bytes it may have several,
+-- which differ in their journals' entries
+pub record Stands {S : Type 0} (tells : Type 0) (disk : S → Disk) (library : LibraryOver S) (s : State) : Type 0 where
   pub alive : library.failed ≡ false
-  pub state : library.state ≡ s
+  pub remembered : IsRemembered tells (disk library.store) library.book library.state s
 
 -- the library is what calls have led to
-abbrev pub IsAt : {S : Type 0} → LibraryOver S → Outcome → Type 0
-IsAt library (Standing s) = Stands library s
-IsAt library (Failed entries) = library.failed ≡ true
+abbrev pub IsAt : {S : Type 0} → (tells : Type 0) → (disk : S → Disk) → LibraryOver S → Outcome → Type 0
+IsAt tells disk library (Standing s) = Stands tells disk library s
+IsAt tells disk library (Failed entries) = library.failed ≡ true
 
--- from a state that it had, the call led the library to an outcome of that call
-pub record Goes {S : Type 0} (sources : List NamedSource) (new : LibraryOver S) (s : State) (call : Call) : Type 0 where
+-- a call on a library in this state, whose journal's entries were read as these, comes to this; where it failed the journal was to hold those of the step
+-- in which they were read so
+abbrev pub ComesReading : List NamedSource → (read : List Entry) → State → Call → Outcome → Type 0
+ComesReading sources read s call (Standing t) = MayAnswerReading sources read s call.job call.timestamp call.request call.reply t
+ComesReading sources read s call (Failed entries) =
+    (call.reply ≡ StoreFault) × (entries ≡ (changed s (change sources read (memory_of s) call.job call.timestamp call.request)).0.entries)
+
+-- from a state that it had, the call led the library to an outcome of that call, for what was read of the journal: where the store tells of its bytes, what
+-- was deposited, and where it doesn't, what may be read of a journal
+pub record Goes {S : Type 0} (tells : Type 0) (disk : S → Disk) (sources : List NamedSource) (new : LibraryOver S) (s : State) (call : Call) : Type 0 where
+  pub read : List Entry
+  pub may : MayBeRead s read
+  pub own : tells → read ≡ s.entries
   pub outcome : Outcome
-  pub comes : Comes sources s call outcome
-  pub at : IsAt new outcome
+  pub comes : ComesReading sources read s call outcome
+  pub at : IsAt tells disk new outcome
 
--- the job may make a call: it runs, the library hasn't failed, and it is sound, as each legal history leaves it
+-- the job may make a call: it runs, and the library hasn't failed
 pub record IsReady {S : Type 0} (job : ℕ) (library : LibraryOver S) : Type 0 where
   pub alive : library.failed ≡ false
   pub running : IsTrue (is_running (job_at job library.state.jobs))
-  pub sound : IsSound library.state
 
 -- the least count, besides what was forced, at which a stop within a call ends the journal: with all entries of the call; CHGJRN forces what waits
 -- before it deposits its own

@@ -4,7 +4,8 @@
 ghost use Rattle.std.specs.Prelude.{◌≡◌, ◌+◌, false, length, take};
 ghost use Rattle.store_model.specs.Disk.{Areas, May};
 ghost use Rattle.journal_book.specs.Kept.{SpellEntries};
-ghost use Rattle.kept_library.specs.Journaled.{IsJournaled};
+ghost use Rattle.library_steps.specs.State.{State};
+ghost use Rattle.kept_library.specs.Journaled.{IsRemembered};
 ghost use Rattle.kept_library.specs.Stands.{Stands};
 
 use kept_journal::KeptJournal;
@@ -12,8 +13,8 @@ use library_parts::Contents;
 use std::marker::Model;
 use store_model::Store;
 
-/// A library whose journal stands on a disk, before calls are made on it. Contracts see the store, the journal's book, the library's state, and the
-/// access paths that it keeps.
+/// A library whose journal stands on a disk, before calls are made on it. Contracts see the store, the journal's book, what is in memory of the library's
+/// state, and the access paths that it keeps.
 pub struct KeptLibrary<S: Store> {
     store: S,
     journal: KeptJournal,
@@ -22,25 +23,28 @@ pub struct KeptLibrary<S: Store> {
 
 impl<S: Store> Model for KeptLibrary<S> {
     ghost use Rattle.std.specs.Prelude.{false};
-    ghost use Rattle.kept_library.specs.Journaled.{IsJournaled};
+    ghost use Rattle.library_steps.specs.State.{State};
+    ghost use Rattle.kept_library.specs.Journaled.{IsRemembered};
     ghost use Rattle.kept_library.specs.Parts.{LibraryOver};
 
     ghost Value = { LibraryOver S };
 
     ghost view = { λ l. record { store = l.store; book = l.journal; state = l.contents.state; paths = l.contents.room.paths.paths; failed = false } };
 
-    ghost invariant = { λ l. IsJournaled S.tells (S.disk l.store) l.journal l.contents.state };
+    ghost invariant = { λ l. (s : State) × IsRemembered S.tells (S.disk l.store) l.journal l.contents.state s };
 }
 
 impl<S: Store> KeptLibrary<S> {
-    /// A library with this in it, whose journal is this one in the store. The store is not called.
+    /// A library with this in memory, whose journal is this one in the store. The store is not called.
     pub fn over(store: S, journal: KeptJournal, contents: Contents) -> KeptLibrary<S>
-        requires { IsJournaled S.tells (S.disk store) journal contents.state }
+        requires { (s : State) × IsRemembered S.tells (S.disk store) journal contents.state s }
         ensures store { result.store ≡ store }
         ensures book { result.book ≡ journal }
-        ensures stands { Stands result contents.state }
-        ensures left { S.tells → (areas : Areas) → May (S.disk result.store) areas → SpellEntries result.book.chain.first (take result.book.forced result.state.entries) areas }
-        ensures all { result.book.forced + result.book.waiting ≡ length result.state.entries }
+        ensures state { result.state ≡ contents.state }
+        ensures alive { result.failed ≡ false }
+        ensures stands { (s : State) → IsRemembered S.tells (S.disk store) journal contents.state s → Stands S.tells S.disk result s }
+        ensures left { (s : State) → IsRemembered S.tells (S.disk store) journal contents.state s → S.tells → (areas : Areas) → May (S.disk result.store) areas → SpellEntries result.book.chain.first (take result.book.forced s.entries) areas }
+        ensures all { (s : State) → IsRemembered S.tells (S.disk store) journal contents.state s → result.book.forced + result.book.waiting ≡ length s.entries }
     {
         KeptLibrary {
             store,
@@ -75,7 +79,7 @@ impl<S: Store> KeptLibrary<S> {
         ensures state { result.2.state ≡ self.state }
         ensures alive { self.failed ≡ false }
         ensures paths { result.2.room.paths.paths ≡ self.paths }
-        ensures journaled { IsJournaled S.tells (S.disk result.0) result.1 result.2.state }
+        ensures kept { (s : State) × IsRemembered S.tells (S.disk result.0) result.1 result.2.state s }
     {
         let KeptLibrary {
             store,
