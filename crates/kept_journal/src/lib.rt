@@ -4,6 +4,7 @@
 
 mod calls;
 mod journal;
+mod reading;
 mod spelled;
 mod waiting;
 

@@ -1,10 +1,11 @@
 -- From what a request did in memory, and what became of its entries in the journal, to the call: for all requests but CHGJRN.
-use Rattle.std.proofs.Common.{◌≡◌, ◌<◌, ◌≤◌, ◌⊎◌, inl, inr, ℕ, ◌+◌, ◌*◌, Bool, true, false, if◌then◌else◌, IsTrue, List, ◌++◌, length, drop, length-append, Result, Ok, Err, OnOk, refl, sym, ◌∙◌, ap, subst}
+use Rattle.std.proofs.Common.{◌≡◌, ◌<◌, ◌≤◌, ◌⊎◌, inl, inr, ℕ, ◌+◌, ◌*◌, Bool, true, false, if◌then◌else◌, IsTrue, List, ◌++◌, length, length-append, Result, Ok, Err, OnOk, refl, sym, ◌∙◌, ap, subst}
 use Rattle.std.proofs.Common.{arith}
 use Rattle.std.specs.Prelude.{IsErr, IsErrOf, IsOk}
 use Rattle.std.proofs.lemmas.Bool.{false≢true}
-use Rattle.std.proofs.lemmas.List.{drop_at}
-use Rattle.store_model.specs.Disk.{Disk, Leaves}
+use Rattle.store_model.specs.Disk.{Disk, Leaves, Stays}
+use Rattle.store_model.proofs.Runs.{leaves_now, leaves_stays}
+use Rattle.receiver_chain.proofs.Others.{roots_stay}
 use Rattle.entry_codec.specs.declared.entries.Entry.{Entry}
 use Rattle.gated_log.specs.declared.fault.StoreFault.{StoreFault}
 use Rattle.journal_book.specs.Book.{BookState, HasMoreRoom, Holds, IsHeld}
@@ -19,25 +20,28 @@ use Rattle.library_model.specs.declared.replies.Reply.{Reply}
 use Rattle.library_model.specs.declared.replies.Reply.TheVariants as replies
 use Rattle.library_model.specs.declared.requests.Request.{Request}
 use Rattle.library_model.specs.declared.sources.NamedSource.{NamedSource}
-use Rattle.library_steps.specs.State.{Receivers, State, job_at, memory_of}
-use Rattle.library_steps.specs.Change.{Change}
+use Rattle.library_steps.specs.State.{Receivers, State, job_at, memory_of, with_entries}
+use Rattle.library_steps.specs.Change.{Change, changed}
 use Rattle.library_steps.specs.History.{is_running}
-use Rattle.library_steps.specs.Step.{change, step}
+use Rattle.library_steps.specs.Step.{change}
+use Rattle.memory_journal.specs.Blanks.{in_memory}
 use Rattle.library_parts.specs.Answers.{Answers}
+use Rattle.library_parts.specs.Remembered.{remembered}
 use Rattle.library_parts.specs.declared.stop.Stop.{Stop}
 use Rattle.library_parts.specs.declared.stop.Stop.TheVariants as stop
 use Rattle.deposited_entries.specs.Deposits.{AreShort, switches}
 use Rattle.forced_calls.proofs.ForcedLemmas.{asked}
-use Rattle.joint_state.specs.Sound.{Does, IsSound, after}
-use Rattle.sound_histories.proofs.HistoryLemmas.{AnswersStaySound}
+use Rattle.joint_state.specs.Sound.{Does, IsSound, MayBeRead, after}
+use Rattle.sound_histories.proofs.HistoryLemmas.{ReadingsStaySound}
 use Rattle.kept_library.specs.Journaled.{IsBookOf, IsJournaled}
-use Rattle.library_core.specs.Laws.{DepositsStay, EntriesMayWait, HasPlaces, PlacesLast}
+use Rattle.library_core.specs.Laws.{DepositsStay, EntriesAreSpelled, EntriesMayWait, HasPlaces, PlacesLast}
 use Rattle.kept_library.proofs.JournaledLemmas.{counted}
-use Rattle.library_core.specs.Puts.{HasAnswered, HasPut, HasTaken, answer_given, places_taken}
+use Rattle.library_core.specs.Puts.{HasAnswered, HasCome, HasPut, HasTaken, IsAtFault, answer_given, places_taken}
 use Rattle.kept_library.specs.Stands.{whole_from}
 use Rattle.library_core.proofs.ChangeLaws.{Keeps, change-keeps, gives_up-none}
-use Rattle.library_core.proofs.JournalLemmas.{behind-book, more-book}
-use Rattle.library_core.proofs.OutcomeLemmas.{IsPlain, after-entries, behind-is, done-answered, fault-answered, no_memory-answered, refused-answered, still-of, stopped-put}
+use Rattle.library_core.proofs.JournalLemmas.{behind-book, moment-still, more-book}
+use Rattle.library_core.proofs.OutcomeLemmas.{IsPlain, after-entries, behind-is, done-answered, fault-answered, front, no_memory-answered, refused-answered, same-entries, still-of, stopped-put, untouched-answered}
+use Rattle.library_core.proofs.MemoryLemmas.{entries-kept, remembered-after, remembered-twice}
 
 pub ok-is : {A E P : Type 0} (r : Result A E) → IsOk r → OnOk r P → P
 ok-is (Ok a) is p = p
@@ -47,22 +51,23 @@ ok-is (Err e) is p = absurd (false≢true is)
 whole-is : (r : Request) (before behind : List Entry) → switches r ≡ false → whole_from r before behind ≡ length behind
 whole-is r before behind other = ap (λ (b : Bool). if b then length before else length behind) other
 
-module _ (tells : Type 0) (old : Disk) (before roomy : BookState) (s : State) (sources : List NamedSource) (job timestamp : ℕ) (r : Request) (running : IsTrue (is_running (job_at job s.jobs)))
-    (built : IsTrue (is_built r)) (other : switches r ≡ false) (sound : IsSound s) (is : IsJournaled tells old before s) (more : HasMoreRoom before roomy) where
+module _ (tells : Type 0) (old : Disk) (before roomy : BookState) (s : State) (read : List Entry) (reads : MayBeRead s read) (sources : List NamedSource) (job timestamp : ℕ) (r : Request)
+    (running : IsTrue (is_running (job_at job s.jobs))) (built : IsTrue (is_built r)) (other : switches r ≡ false) (sound : IsSound s) (is : IsJournaled tells old before s)
+    (more : HasMoreRoom before roomy) where
   abbrev Wanted : Result Change Reply
-  Wanted = change sources s.entries (memory_of s) job timestamp r
+  Wanted = change sources read (memory_of s) job timestamp r
 
   abbrev Behind : List Entry
-  Behind = (step sources s job timestamp r).0.entries
+  Behind = (changed s Wanted).0.entries
 
   abbrev As : Reply → Call
   As reply = record { job = job; timestamp = timestamp; request = r; reply = reply }
 
   keeps : (c : Change) → Wanted ≡ Ok c → Keeps (memory_of s) c
-  keeps c done = change-keeps sources s.entries (memory_of s) job timestamp r c other built (gives_up-none s sound.numbered is.may.unsaved) done
+  keeps c done = change-keeps sources read (memory_of s) job timestamp r c other built (gives_up-none s read reads.numbered is.may.unsaved) done
 
   does : (c : Change) → Wanted ≡ Ok c → Does s c
-  does c done = record { sound = sound; sources = sources; job = job; timestamp = timestamp; request = r; running = running; does = done }
+  does c done = record { sound = sound; sources = sources; job = job; timestamp = timestamp; request = r; running = running; read = read; reads = reads; does = done }
 
   roomy-of : IsBookOf roomy s
   roomy-of = more-book before roomy s more is.book_of
@@ -79,13 +84,10 @@ module _ (tells : Type 0) (old : Disk) (before roomy : BookState) (s : State) (s
   -- it was done
   module _ (c : Change) (done : Wanted ≡ Ok c) where
     its-after : (after s c).entries ≡ s.entries ++ c.entries
-    its-after = after-entries tells old before roomy s sources job timestamp r running built sound is more plain c done
-
-    pub new-entries : drop (length s.entries) (after s c).entries ≡ c.entries
-    new-entries = ap (λ (l : List Entry). drop (length s.entries) l) its-after ∙ drop_at s.entries c.entries (length s.entries) refl
+    its-after = after-entries tells old before roomy s read reads sources job timestamp r running built sound is more plain c done
 
     its-behind : Behind ≡ s.entries ++ c.entries
-    its-behind = behind-is tells old before roomy s sources job timestamp r running built sound is more plain c done
+    its-behind = behind-is tells old before roomy s read reads sources job timestamp r running built sound is more plain c done
 
     pub done-wait : EntriesMayWait → AreShort sources → MayWait roomy c.entries
     unfolding does
@@ -153,8 +155,10 @@ module _ (tells : Type 0) (old : Disk) (before roomy : BookState) (s : State) (s
         pub done-put : IsOk put → HasPut tells old new before later s (after s c) r Behind false
         done-put fine = record {
           journaled = λ alive. done-journaled fine;
+          front = (c.entries, its-behind);
           moments = done-moments;
-          still = λ alive same told. still-of old new before.chain.first before.forced r s.entries Behind (after s c).entries (its-behind ∙ sym its-after) same (done-moments told);
+          still = λ alive same told. still-of old new before.chain.first before.forced r s.entries Behind (after s c).entries (its-behind ∙ sym its-after)
+              (same-entries s.entries c.entries (after s c).entries its-after same) (done-moments told);
           least = λ alive. done-least fine;
           whole = λ alive. done-whole fine;
           receiver = taken.receiver ∙ more.receiver;
@@ -166,6 +170,7 @@ module _ (tells : Type 0) (old : Disk) (before roomy : BookState) (s : State) (s
         pub fault-put : IsErr put → HasPut tells old new before later s (after s c) r Behind true
         fault-put bad = record {
           journaled = λ alive. absurd (false≢true (sym alive));
+          front = (c.entries, its-behind);
           moments = done-moments;
           still = λ alive same told. absurd (false≢true (sym alive));
           least = λ alive. absurd (false≢true (sym alive));
@@ -173,79 +178,128 @@ module _ (tells : Type 0) (old : Disk) (before roomy : BookState) (s : State) (s
           receiver = taken.receiver ∙ more.receiver;
           roots = taken.roots;
           faults = taken.faults;
-          cause = λ failed. taken.cause bad;
+          cause = λ failed. inl (taken.cause bad);
         }
 
         pub done-forced : IsOk put → c.forced ≡ true → later.waiting ≡ 0
-        done-forced fine forced = ok-is put fine taken.acknowledged (asked sources s.entries (memory_of s) job timestamp r c done forced)
+        done-forced fine forced = ok-is put fine taken.acknowledged (asked sources read (memory_of s) job timestamp r c done forced)
 
-  -- ---- by the cases of the answer
+  -- ---- by the cases of the answer over what is remembered
 
-  its-entries : (t : State) (count : ℕ) (c : Change) (done : Wanted ≡ Ok c) → count ≡ length s.entries → t ≡ after s c → drop count t.entries ≡ c.entries
-  its-entries t count c done is_count leads = (λ i. drop (is_count i) (leads i).entries) ∙ new-entries c done
+  module _ (spelled : EntriesAreSpelled) (short : AreShort sources) where
+    -- what it has left in memory are its entries
+    its-entries : (t : State) (c : Change) (done : Wanted ≡ Ok c) → t ≡ with_entries (remembered s).gone ((remembered s).entries ++ c.entries) c.memory → in_memory t.entries ≡ c.entries
+    unfolding does
+    its-entries t c done leads = entries-kept s t c leads (plain c done).gone (spelled s c (does c done) short is.may)
 
-  pub asked-count : (t : State) (count : ℕ) (result : Result Reply Stop) → Answers s t result Wanted → count ≡ length s.entries → IsOk result → count ≤ length t.entries
-  asked-count t count (Ok reply) (c, done, given, leads) is_count fine =
-      omega (arith, is_count, ap (λ (x : State). length x.entries) leads, ap (λ (l : List Entry). length l) (its-after c done), length-append s.entries c.entries)
-  asked-count t count (Err stopped) answers is_count fine = absurd (false≢true fine)
+    pub asked-wait : EntriesMayWait → (t : State) (result : Result Reply Stop) → Answers (remembered s) t result Wanted → IsOk result → MayWait roomy (in_memory t.entries)
+    asked-wait wait t (Ok reply) (c, done, given, leads) fine = subst (λ (l : List Entry). MayWait roomy l) (sym (its-entries t c done leads)) (done-wait c done wait short)
+    asked-wait wait t (Err stopped) answers fine = absurd (false≢true fine)
 
-  pub asked-wait : EntriesMayWait → AreShort sources → (t : State) (count : ℕ) (result : Result Reply Stop) → Answers s t result Wanted → count ≡ length s.entries → IsOk result
-      → MayWait roomy (drop count t.entries)
-  asked-wait wait short t count (Ok reply) (c, done, given, leads) is_count fine =
-      subst (λ (l : List Entry). MayWait roomy l) (sym (its-entries t count c done is_count leads)) (done-wait c done wait short)
-  asked-wait wait short t count (Err stopped) answers is_count fine = absurd (false≢true fine)
+    module _ (places : PlacesLast) (made : needs_memory r ≡ true → 2 * length s.jobs + 1 ≤ roomy.chain.room) where
+      pub asked-place : (t : State) (result : Result Reply Stop) → Answers (remembered s) t result Wanted → IsOk result → places_taken r (in_memory t.entries) ≤ roomy.chain.room
+      asked-place t (Ok reply) (c, done, given, leads) fine =
+          subst (λ (l : List Entry). places_taken r l ≤ roomy.chain.room) (sym (its-entries t c done leads)) (done-place c done places made)
+      asked-place t (Err stopped) answers fine = absurd (false≢true fine)
 
-  module _ (places : PlacesLast) (made : needs_memory r ≡ true → 2 * length s.jobs + 1 ≤ roomy.chain.room) where
-    pub asked-place : (t : State) (count : ℕ) (result : Result Reply Stop) → Answers s t result Wanted → count ≡ length s.entries → IsOk result
-        → places_taken r (drop count t.entries) ≤ roomy.chain.room
-    asked-place t count (Ok reply) (c, done, given, leads) is_count fine =
-        subst (λ (l : List Entry). places_taken r l ≤ roomy.chain.room) (sym (its-entries t count c done is_count leads)) (done-place c done places made)
-    asked-place t count (Err stopped) answers is_count fine = absurd (false≢true fine)
+      module _ (stay : DepositsStay) (stays : ReadingsStaySound) (own : tells → read ≡ s.entries) (new : Disk) (later : BookState) where
+        its-taken : (t : State) (c : Change) (done : Wanted ≡ Ok c) (put : Result (Unit {0}) StoreFault) → t ≡ with_entries (remembered s).gone ((remembered s).entries ++ c.entries) c.memory
+            → HasTaken tells old new roomy later r (in_memory t.entries) put → HasTaken tells old new roomy later r c.entries put
+        its-taken t c done put leads taken = subst (λ (l : List Entry). HasTaken tells old new roomy later r l put) (its-entries t c done leads) taken
 
-    module _ (stay : DepositsStay) (short : AreShort sources) (new : Disk) (later : BookState) where
-      its-taken : (t : State) (count : ℕ) (c : Change) (done : Wanted ≡ Ok c) (put : Result (Unit {0}) StoreFault) → count ≡ length s.entries → t ≡ after s c
-          → HasTaken tells old new roomy later r (drop count t.entries) put
-          → HasTaken tells old new roomy later r c.entries put
-      its-taken t count c done put is_count leads taken = subst (λ (l : List Entry). HasTaken tells old new roomy later r l put) (its-entries t count c done is_count leads) taken
+        -- what the memory is once the entries are forgotten
+        forgotten-after : (t u : State) (c : Change) → t ≡ with_entries (remembered s).gone ((remembered s).entries ++ c.entries) c.memory → u ≡ remembered t → u ≡ remembered (after s c)
+        forgotten-after t u c leads forgets = forgets ∙ remembered-after s t c leads
 
-      stopped-later : (t : State) → t ≡ s → later ≡ roomy → ((P : Disk → Type 0) → P old → P new) → HasPut tells old new before later s t r Behind false
-      stopped-later t same book disk =
-          subst (λ (u : State). HasPut tells old new before later s u r Behind false) (sym same)
-          (subst (λ (b : BookState). HasPut tells old new before b s s r Behind false) (sym book) (disk (λ d. HasPut tells old d before roomy s s r Behind false)
-          (stopped-put tells old before roomy s sources job timestamp r running built sound is more plain)))
+        forgotten-same : (t u : State) → t ≡ remembered s → u ≡ remembered t → u ≡ remembered s
+        forgotten-same t u same forgets = forgets ∙ ap (λ (x : State). remembered x) same ∙ remembered-twice s
 
-      pub ended-put : (t : State) (count : ℕ) (result : Result Reply Stop) (put : Result (Unit {0}) StoreFault) → Answers s t result Wanted → count ≡ length s.entries
-          → (IsOk result → HasTaken tells old new roomy later r (drop count t.entries) put) → (IsErr result → IsOk put) → (IsErr result → later ≡ roomy)
-          → (IsErr result → (P : Disk → Type 0) → P old → P new)
-          → HasPut tells old new before later s t r Behind (answer_given put result).1
-      ended-put t count (Ok reply) (Ok nothing) (c, done, given, leads) is_count taken nothing_called same_book same_disk =
-          subst (λ (u : State). HasPut tells old new before later s u r Behind false) (sym leads)
-          (done-put c done places made stay short new later (Ok nothing) (its-taken t count c done (Ok nothing) is_count leads (taken refl)) refl)
-      ended-put t count (Ok reply) (Err fault) (c, done, given, leads) is_count taken nothing_called same_book same_disk =
-          subst (λ (u : State). HasPut tells old new before later s u r Behind true) (sym leads)
-          (fault-put c done places made stay short new later (Err fault) (its-taken t count c done (Err fault) is_count leads (taken refl)) refl)
-      ended-put t count (Err stop.NoMemory) (Ok nothing) same is_count taken nothing_called same_book same_disk = stopped-later t same (same_book refl) (same_disk refl)
-      ended-put t count (Err (stop.Refused reply)) (Ok nothing) (same, refused) is_count taken nothing_called same_book same_disk = stopped-later t same (same_book refl) (same_disk refl)
-      ended-put t count (Err stopped) (Err fault) answers is_count taken nothing_called same_book same_disk = absurd (false≢true (nothing_called refl))
+        -- nothing was done
+        stopped-come : (u : State) (reply : Reply) → u ≡ remembered s → later ≡ roomy → ((P : Disk → Type 0) → P old → P new)
+            → HasAnswered sources read s s later (As reply) false → HasCome tells sources old new before later u s (As reply) false
+        stopped-come u reply memory book disk answered = record {
+          read = read;
+          may = reads;
+          own = own;
+          to = s;
+          memory = memory;
+          put =
+              subst (λ (b : BookState). HasPut tells old new before b s s r Behind false) (sym book) (disk (λ d. HasPut tells old d before roomy s s r Behind false)
+              (stopped-put tells old before roomy s read reads sources job timestamp r running built sound is more plain));
+          answered = answered;
+        }
 
-      pub ended-answered : AnswersStaySound → (t : State) (count : ℕ) (result : Result Reply Stop) (put : Result (Unit {0}) StoreFault) → Answers s t result Wanted
-          → (IsErrOf result stop.NoMemory → IsTrue (needs_memory r))
-          → count ≡ length s.entries → (IsOk result → HasTaken tells old new roomy later r (drop count t.entries) put) → (IsErr result → IsOk put) → (IsErr result → later ≡ roomy)
-          → HasAnswered sources s t later (As (answer_given put result).0) (answer_given put result).1
-      ended-answered stays t count (Ok reply) (Ok nothing) (c, done, given, leads) needs is_count taken nothing_called same_book =
-          subst (λ (u : State). HasAnswered sources s u later (As reply) false) (sym leads)
-          (subst (λ (x : Reply). HasAnswered sources s (after s c) later (As x) false) given
-          (done-answered tells old before roomy s sources job timestamp r running built sound is more plain c done stays later
-          (done-forced c done places made stay short new later (Ok nothing) (its-taken t count c done (Ok nothing) is_count leads (taken refl)) refl)))
-      ended-answered stays t count (Ok reply) (Err fault) (c, done, given, leads) needs is_count taken nothing_called same_book =
-          subst (λ (u : State). HasAnswered sources s u later (As replies.StoreFault) true) (sym leads)
-          (fault-answered tells old before roomy s sources job timestamp r running built sound is more plain c done stays later)
-      ended-answered stays t count (Err stop.NoMemory) (Ok nothing) same needs is_count taken nothing_called same_book =
-          subst (λ (u : State). HasAnswered sources s u later (As replies.NoMemory) false) (sym same)
-          (subst (λ (b : BookState). HasAnswered sources s s b (As replies.NoMemory) false) (sym (same_book refl))
-          (no_memory-answered tells old before roomy s sources job timestamp r running built sound is more plain roomy (needs refl)))
-      ended-answered stays t count (Err (stop.Refused reply)) (Ok nothing) (same, refused) needs is_count taken nothing_called same_book =
-          subst (λ (u : State). HasAnswered sources s u later (As reply) false) (sym same)
-          (subst (λ (b : BookState). HasAnswered sources s s b (As reply) false) (sym (same_book refl)) (refused-answered tells old before roomy s sources job timestamp r running built sound is more
-          plain roomy reply refused))
-      ended-answered stays t count (Err stopped) (Err fault) answers needs is_count taken nothing_called same_book = absurd (false≢true (nothing_called refl))
+        pub ended-come : (t u : State) (result : Result Reply Stop) (put : Result (Unit {0}) StoreFault) → Answers (remembered s) t result Wanted → u ≡ remembered t
+            → (IsErrOf result stop.NoMemory → IsTrue (needs_memory r)) → (IsOk result → HasTaken tells old new roomy later r (in_memory t.entries) put) → (IsErr result → IsOk put)
+            → (IsErr result → later ≡ roomy) → (IsErr result → (P : Disk → Type 0) → P old → P new)
+            → HasCome tells sources old new before later u s (As (answer_given put result).0) (answer_given put result).1
+        ended-come t u (Ok reply) (Ok nothing) (c, done, given, leads) forgets needs taken nothing_called same_book same_disk =
+            let its = its-taken t c done (Ok nothing) leads (taken refl) in
+            record {
+              read = read;
+              may = reads;
+              own = own;
+              to = after s c;
+              memory = forgotten-after t u c leads forgets;
+              put = done-put c done places made stay short new later (Ok nothing) its refl;
+              answered =
+                  subst (λ (x : Reply). HasAnswered sources read s (after s c) later (As x) false) given
+                  (done-answered tells old before roomy s read reads sources job timestamp r running built sound is more plain c done stays later
+                  (done-forced c done places made stay short new later (Ok nothing) its refl));
+            }
+        ended-come t u (Ok reply) (Err fault) (c, done, given, leads) forgets needs taken nothing_called same_book same_disk = record {
+          read = read;
+          may = reads;
+          own = own;
+          to = after s c;
+          memory = forgotten-after t u c leads forgets;
+          put = fault-put c done places made stay short new later (Err fault) (its-taken t c done (Err fault) leads (taken refl)) refl;
+          answered = fault-answered tells old before roomy s read reads sources job timestamp r running built sound is more plain c done stays later;
+        }
+        ended-come t u (Err stop.NoMemory) (Ok nothing) same forgets needs taken nothing_called same_book same_disk =
+            stopped-come u replies.NoMemory (forgotten-same t u same forgets) (same_book refl) (same_disk refl)
+            (no_memory-answered tells old before roomy s read reads sources job timestamp r running built sound is more plain later (needs refl))
+        ended-come t u (Err (stop.Refused reply)) (Ok nothing) (same, refused) forgets needs taken nothing_called same_book same_disk =
+            stopped-come u reply (forgotten-same t u same forgets) (same_book refl) (same_disk refl)
+            (refused-answered tells old before roomy s read reads sources job timestamp r running built sound is more plain later reply refused)
+        ended-come t u (Err stopped) (Err fault) answers forgets needs taken nothing_called same_book same_disk = absurd (false≢true (nothing_called refl))
+
+  -- there was no room for its block
+  pub roomless-come : (own : tells → read ≡ s.entries) (m : State) → m ≡ remembered s → IsTrue (needs_memory r) → HasCome tells sources old old before roomy m s (As replies.NoMemory) false
+  roomless-come own m memory needs = record {
+    read = read;
+    may = reads;
+    own = own;
+    to = s;
+    memory = memory;
+    put = stopped-put tells old before roomy s read reads sources job timestamp r running built sound is more plain;
+    answered = no_memory-answered tells old before roomy s read reads sources job timestamp r running built sound is more plain roomy needs;
+  }
+
+  -- the store was found at fault where the journal was read for it
+  pub unread-come : (own : tells → read ≡ s.entries) (mid : Disk) → Stays old mid → IsAtFault tells old mid r → (m : State) → m ≡ remembered s → IsTrue (needs_memory r)
+      → HasCome tells sources old mid before roomy m s (As replies.StoreFault) true
+  unread-come own mid stays cause m memory needs =
+      let rest = front tells old before roomy s read reads sources job timestamp r running built sound is more plain in
+      let P = IsForcedOrFrom before.chain.first before.forced (whole_from r s.entries Behind) Behind in
+      record {
+        read = read;
+        may = reads;
+        own = own;
+        to = s;
+        memory = memory;
+        put = record {
+          journaled = λ alive. absurd (false≢true (sym alive));
+          front = rest;
+          moments = λ told.
+              leaves_stays old mid P stays (leaves_now old old P (moment-still before s.entries rest.0 Behind (whole_from r s.entries Behind) old (is.holds told) rest.1));
+          still = λ alive same told. absurd (false≢true (sym alive));
+          least = λ alive. absurd (false≢true (sym alive));
+          whole = λ alive. absurd (false≢true (sym alive));
+          receiver = more.receiver;
+          roots = roots_stay old mid stays;
+          faults = stays.later.faults;
+          cause = λ failed. cause;
+        };
+        answered = untouched-answered tells old before roomy s read reads sources job timestamp r running built sound is more plain roomy needs;
+      }

@@ -24,50 +24,55 @@ use Rattle.library_model.specs.declared.requests.Request.{Request}
 use Rattle.library_model.specs.declared.requests.Request.TheVariants.{ChangeJournal}
 use Rattle.library_model.specs.declared.sources.NamedSource.{NamedSource}
 use Rattle.library_steps.specs.State.{Memory, State, job_at, memory_of}
-use Rattle.library_steps.specs.Change.{Change, does}
+use Rattle.library_steps.specs.Change.{Change, changed, does}
 use Rattle.library_steps.specs.Drafts.{author_of, library_draft}
 use Rattle.library_steps.specs.History.{is_running}
 use Rattle.library_steps.specs.Receivers.{attach_change, attach_plan}
-use Rattle.library_steps.specs.Step.{change, step}
+use Rattle.library_steps.specs.Step.{change}
 use Rattle.library_steps.specs.declared.limits.TheConstants.{LAST_RECEIVER, LAST_SEQUENCE}
 use Rattle.library_parts.specs.Answers.{Answers, Gives, reply_of}
+use Rattle.library_parts.specs.Remembered.{remembered}
 use Rattle.library_parts.specs.declared.stop.Stop.{Stop}
 use Rattle.library_parts.specs.declared.stop.Stop.TheVariants as stop
-use Rattle.joint_state.specs.Sound.{Does, IsSound, after}
-use Rattle.sound_histories.proofs.HistoryLemmas.{AnswersStaySound}
+use Rattle.joint_state.specs.Sound.{Does, IsSound, MayBeRead, after}
+use Rattle.joint_state.proofs.ReadLemmas.{own-read}
+use Rattle.sound_histories.proofs.HistoryLemmas.{ReadingsStaySound}
 use Rattle.kept_library.specs.Journaled.{IsBookOf, IsJournaled}
 use Rattle.library_core.specs.Laws.{DepositsStay, EntriesAreSpelled, HasPlaces, PlacesLast}
 use Rattle.kept_library.proofs.JournaledLemmas.{counted}
-use Rattle.library_core.specs.Puts.{HasAnswered, HasPut}
+use Rattle.library_core.specs.Puts.{HasAnswered, HasCome, HasPut, entries_reading}
 use Rattle.kept_library.specs.Stands.{whole_from}
 use Rattle.library_core.proofs.JournalLemmas.{more-book}
-use Rattle.library_core.proofs.OutcomeLemmas.{IsPlain, after-entries, behind-is, done-answered, no_memory-answered, ok-same, refused-answered, still-of, stopped-put, untouched-answered}
+use Rattle.library_core.proofs.OutcomeLemmas.{IsPlain, after-entries, behind-is, done-answered, no_memory-answered, ok-same, refused-answered, same-entries, still-of, stopped-put}
+use Rattle.library_core.proofs.OutcomeLemmas.{untouched-answered}
+use Rattle.library_core.proofs.MemoryLemmas.{memory-of, remembered-after}
 
 does-plain : {A : Type 0} (effect : A → Change) (plan : Result A Reply) (m : Memory) (c : Change) → does effect plan ≡ Ok c → ((a : A) → IsPlain m (effect a)) → IsPlain m c
 does-plain effect (Ok a) m c is plain = subst (λ (x : Change). IsPlain m x) (ok-same (effect a) c is) (plain a)
 does-plain effect (Err reply) m c is plain = absurd cc
 
-attach-plain : (sources : List NamedSource) (s : State) (job timestamp : ℕ) (c : Change) → change sources s.entries (memory_of s) job timestamp ChangeJournal ≡ Ok c → IsPlain (memory_of s) c
+attach-plain : (sources : List NamedSource) (read : List Entry) (s : State) (job timestamp : ℕ) (c : Change) → change sources read (memory_of s) job timestamp ChangeJournal ≡ Ok c → IsPlain (memory_of s) c
 unfolding change
-attach-plain sources s job timestamp c is =
+attach-plain sources read s job timestamp c is =
     does-plain (attach_change (memory_of s) job timestamp) (attach_plan (memory_of s)) (memory_of s) c is (λ number. record { gone = refl; checkpoint = refl; told = refl })
 
-attach-done : (sources : List NamedSource) (s : State) (job timestamp number : ℕ) → attach_plan (memory_of s) ≡ Ok number
-    → change sources s.entries (memory_of s) job timestamp ChangeJournal ≡ Ok (attach_change (memory_of s) job timestamp number)
+attach-done : (sources : List NamedSource) (read : List Entry) (s : State) (job timestamp number : ℕ) → attach_plan (memory_of s) ≡ Ok number
+    → change sources read (memory_of s) job timestamp ChangeJournal ≡ Ok (attach_change (memory_of s) job timestamp number)
 unfolding change
-attach-done sources s job timestamp number plan = ap (λ (p : Result ℕ Reply). does (attach_change (memory_of s) job timestamp) p) plan
+attach-done sources read s job timestamp number plan = ap (λ (p : Result ℕ Reply). does (attach_change (memory_of s) job timestamp) p) plan
 
-attach-refused : (sources : List NamedSource) (s : State) (job timestamp : ℕ) (reply : Reply) → attach_plan (memory_of s) ≡ Err reply
-    → change sources s.entries (memory_of s) job timestamp ChangeJournal ≡ Err reply
+attach-refused : (sources : List NamedSource) (read : List Entry) (s : State) (job timestamp : ℕ) (reply : Reply) → attach_plan (memory_of s) ≡ Err reply
+    → change sources read (memory_of s) job timestamp ChangeJournal ≡ Err reply
 unfolding change
-attach-refused sources s job timestamp reply plan = ap (λ (p : Result ℕ Reply). does (attach_change (memory_of s) job timestamp) p) plan
+attach-refused sources read s job timestamp reply plan = ap (λ (p : Result ℕ Reply). does (attach_change (memory_of s) job timestamp) p) plan
 
 -- room that was made before
-pub room-put : (tells : Type 0) (old new : Disk) (before roomy after : BookState) (s t : State) (r : Request) (behind : List Entry) (failed : Bool) → HasMoreRoom before roomy
+room-put : (tells : Type 0) (old new : Disk) (before roomy after : BookState) (s t : State) (r : Request) (behind : List Entry) (failed : Bool) → HasMoreRoom before roomy
     → HasPut tells old new roomy after s t r behind failed
     → HasPut tells old new before after s t r behind failed
 room-put tells old new before roomy after s t r behind failed more put = record {
   journaled = put.journaled;
+  front = put.front;
   moments = λ told.
       subst (λ (n : ℕ). Leaves old new (IsForcedOrFrom before.chain.first n (whole_from r s.entries behind) behind)) more.forced
       (subst (λ (n : ℕ). Leaves old new (IsForcedOrFrom n roomy.forced (whole_from r s.entries behind) behind)) more.receiver (put.moments told));
@@ -85,6 +90,18 @@ room-put tells old new before roomy after s t r behind failed more put = record 
   cause = put.cause;
 }
 
+pub room-come : (tells : Type 0) (sources : List NamedSource) (old new : Disk) (before roomy after : BookState) (m s : State) (call : Call) (failed : Bool) → HasMoreRoom before roomy
+    → HasCome tells sources old new roomy after m s call failed → HasCome tells sources old new before after m s call failed
+room-come tells sources old new before roomy after m s call failed more come = record {
+  read = come.read;
+  may = come.may;
+  own = come.own;
+  to = come.to;
+  memory = come.memory;
+  put = room-put tells old new before roomy after s come.to call.request (entries_reading sources come.read s call) failed more come.put;
+  answered = come.answered;
+}
+
 pub err-is : {A E P : Type 0} (r : Result A E) (e : E) → IsErrOf r e → OnErr r P → P
 err-is (Ok a) e is p = absurd cc
 err-is (Err x) e is p = p
@@ -94,10 +111,39 @@ pub one-number : {E : Type 0} (r : Result ℕ E) (a b : ℕ) → IsOk r → IfOk
 one-number (Ok n) a b fine first second = sym second ∙ first
 one-number (Err e) a b fine first second = absurd (false≢true fine)
 
+-- what is known where a receiver is to be attached, of what requests need of a library
+pub record IsReadyToAttach (m : Memory) (job timestamp number room : ℕ) (ending beginning : Draft) : Type 0 where
+  pub plan : attach_plan m ≡ Ok number
+  pub next : number ≡ m.receivers.attached + 1
+  pub few : number ≤ LAST_RECEIVER
+  pub left : m.last_entry ≤ LAST_SEQUENCE
+  pub made : 2 * length m.jobs + 1 ≤ room
+  pub ending_is : ending ≡ library_draft (author_of m job timestamp) (NextReceiver number)
+  pub beginning_is : beginning ≡ library_draft (author_of m job timestamp) (PreviousReceiver m.receivers.attached)
+
+-- of the memory it is known, so of the state
+pub ready-over : (m s : State) (job timestamp number room : ℕ) (ending beginning : Draft) → m ≡ remembered s → IsReadyToAttach (memory_of m) job timestamp number room ending beginning
+    → IsReadyToAttach (memory_of s) job timestamp number room ending beginning
+ready-over m s job timestamp number room ending beginning memory ready =
+    subst (λ (x : Memory). IsReadyToAttach x job timestamp number room ending beginning) (memory-of m s memory) ready
+
+-- what the memory answers, the state answers
+pub attach-over : (m s t : State) (job timestamp number : ℕ) (reply : Reply) → m ≡ remembered s → Answers m t (Ok reply) (Ok (attach_change (memory_of m) job timestamp number))
+    → Answers (remembered s) t (Ok reply) (Ok (attach_change (memory_of s) job timestamp number))
+attach-over m s t job timestamp number reply memory answers =
+    subst (λ (x : Memory). Answers (remembered s) t (Ok reply) (Ok (attach_change x job timestamp number))) (memory-of m s memory)
+    (subst (λ (u : State). Answers u t (Ok reply) (Ok (attach_change (memory_of m) job timestamp number))) memory answers)
+
+pub plan-over : (m n s : State) (stopped : Stop) → n ≡ m → m ≡ remembered s → Gives {A = ℕ} (Err stopped) (attach_plan (memory_of n)) → Gives {A = ℕ} (Err stopped) (attach_plan (memory_of s))
+plan-over m n s stopped same memory plan = subst (λ (x : Memory). Gives {A = ℕ} (Err stopped) (attach_plan x)) (memory-of n s (same ∙ memory)) plan
+
 module _ (tells : Type 0) (old : Disk) (before roomy : BookState) (s : State) (sources : List NamedSource) (job timestamp : ℕ) (running : IsTrue (is_running (job_at job s.jobs))) (sound : IsSound s)
     (is : IsJournaled tells old before s) (more : HasMoreRoom before roomy) where
+  abbrev reads : MayBeRead s s.entries
+  reads = own-read s sound
+
   abbrev Behind : List Entry
-  Behind = (step sources s job timestamp ChangeJournal).0.entries
+  Behind = (changed s (change sources s.entries (memory_of s) job timestamp ChangeJournal)).0.entries
 
   abbrev As : Reply → Call
   As reply = record { job = job; timestamp = timestamp; request = ChangeJournal; reply = reply }
@@ -109,26 +155,54 @@ module _ (tells : Type 0) (old : Disk) (before roomy : BookState) (s : State) (s
   ties-held told = ∣ (s.entries, more_holds before roomy s.entries old more (is.holds told)) ∣₁
 
   -- it was refused, or there was no memory in memory
-  pub unready-put : HasPut tells old old before roomy s s ChangeJournal Behind false
-  unready-put = stopped-put tells old before roomy s sources job timestamp ChangeJournal running refl sound is more (attach-plain sources s job timestamp)
+  unready-put : HasPut tells old old before roomy s s ChangeJournal Behind false
+  unready-put = stopped-put tells old before roomy s s.entries reads sources job timestamp ChangeJournal running refl sound is more (attach-plain sources s.entries s job timestamp)
 
-  pub unready-answered : (stopped : Stop) → Gives {A = ℕ} (Err stopped) (attach_plan (memory_of s)) → HasAnswered sources s s roomy (As (reply_of (Err stopped))) false
-  unready-answered stop.NoMemory plan = no_memory-answered tells old before roomy s sources job timestamp ChangeJournal running refl sound is more (attach-plain sources s job timestamp) roomy refl
+  unready-answered : (stopped : Stop) → Gives {A = ℕ} (Err stopped) (attach_plan (memory_of s)) → HasAnswered sources s.entries s s roomy (As (reply_of (Err stopped))) false
+  unready-answered stop.NoMemory plan = no_memory-answered tells old before roomy s s.entries reads sources job timestamp ChangeJournal running refl sound is more (attach-plain sources s.entries s job timestamp) roomy refl
   unready-answered (stop.Refused reply) plan =
-      refused-answered tells old before roomy s sources job timestamp ChangeJournal running refl sound is more (attach-plain sources s job timestamp) roomy reply
-      (attach-refused sources s job timestamp reply plan)
+      refused-answered tells old before roomy s s.entries reads sources job timestamp ChangeJournal running refl sound is more (attach-plain sources s.entries s job timestamp) roomy reply
+      (attach-refused sources s.entries s job timestamp reply plan)
 
-  module _ (number : ℕ) (plan : attach_plan (memory_of s) ≡ Ok number) (next : number ≡ s.receivers.attached + 1) (few : number ≤ LAST_RECEIVER) (left : (memory_of s).last_entry ≤ LAST_SEQUENCE)
-      (made : 2 * length s.jobs + 1 ≤ roomy.chain.room) (ending beginning : Draft) (ending_is : ending ≡ library_draft (author_of (memory_of s) job timestamp) (NextReceiver number))
-      (beginning_is : beginning ≡ library_draft (author_of (memory_of s) job timestamp) (PreviousReceiver s.receivers.attached)) where
+  -- the library has come to the state that it had
+  come-same : (new : Disk) (later : BookState) (m : State) (reply : Reply) (failed : Bool) → m ≡ remembered s → HasPut tells old new before later s s ChangeJournal Behind failed
+      → HasAnswered sources s.entries s s later (As reply) failed → HasCome tells sources old new before later m s (As reply) failed
+  come-same new later m reply failed memory put answered = record { read = s.entries; may = reads; own = λ told. refl; to = s; memory = memory; put = put; answered = answered }
+
+  pub unready-come : (m : State) → m ≡ remembered s → (stopped : Stop) → Gives {A = ℕ} (Err stopped) (attach_plan (memory_of s))
+      → HasCome tells sources old old before roomy m s (As (reply_of (Err stopped))) false
+  unready-come m memory stopped plan = come-same old roomy m (reply_of (Err stopped)) false memory unready-put (unready-answered stopped plan)
+
+  module _ (number : ℕ) (ending beginning : Draft) (ready : IsReadyToAttach (memory_of s) job timestamp number roomy.chain.room ending beginning) where
+    plan : attach_plan (memory_of s) ≡ Ok number
+    plan = ready.plan
+
+    next : number ≡ s.receivers.attached + 1
+    next = ready.next
+
+    few : number ≤ LAST_RECEIVER
+    few = ready.few
+
+    left : (memory_of s).last_entry ≤ LAST_SEQUENCE
+    left = ready.left
+
+    made : 2 * length s.jobs + 1 ≤ roomy.chain.room
+    made = ready.made
+
+    ending_is : ending ≡ library_draft (author_of (memory_of s) job timestamp) (NextReceiver number)
+    ending_is = ready.ending_is
+
+    beginning_is : beginning ≡ library_draft (author_of (memory_of s) job timestamp) (PreviousReceiver s.receivers.attached)
+    beginning_is = ready.beginning_is
+
     abbrev Done : Change
     Done = attach_change (memory_of s) job timestamp number
 
-    done : change sources s.entries (memory_of s) job timestamp ChangeJournal ≡ Ok Done
-    done = attach-done sources s job timestamp number plan
+    done : change sources read (memory_of s) job timestamp ChangeJournal ≡ Ok Done
+    done = attach-done sources s.entries s job timestamp number plan
 
     does-it : Does s Done
-    does-it = record { sound = sound; sources = []; job = job; timestamp = timestamp; request = ChangeJournal; running = running; does = attach-done [] s job timestamp number plan }
+    does-it = record { sound = sound; sources = []; job = job; timestamp = timestamp; request = ChangeJournal; running = running; read = s.entries; reads = reads; does = attach-done [] s.entries s job timestamp number plan }
 
     ties-are : tied_by ending beginning (next_of roomy) ≡ Done.entries
     ties-are = λ i. tied_by (ending_is i) (beginning_is i) (roomy-of.next i)
@@ -155,11 +229,11 @@ module _ (tells : Type 0) (old : Disk) (before roomy : BookState) (s : State) (s
     ties-place some = omega (arith, made)
 
     ties-after : (after s Done).entries ≡ s.entries ++ Done.entries
-    ties-after = after-entries tells old before roomy s sources job timestamp ChangeJournal running refl sound is more (attach-plain sources s job timestamp) Done done
+    ties-after = after-entries tells old before roomy s s.entries reads sources job timestamp ChangeJournal running refl sound is more (attach-plain sources s.entries s job timestamp) Done done
 
     its-behind : Behind ≡ s.entries ++ tied_by ending beginning (next_of roomy)
     its-behind =
-        behind-is tells old before roomy s sources job timestamp ChangeJournal running refl sound is more (attach-plain sources s job timestamp) Done done
+        behind-is tells old before roomy s s.entries reads sources job timestamp ChangeJournal running refl sound is more (attach-plain sources s.entries s job timestamp) Done done
         ∙ ap (λ (l : List Entry). s.entries ++ l) (sym ties-are)
 
     module _ (new : Disk) (later : BookState)
@@ -175,9 +249,10 @@ module _ (tells : Type 0) (old : Disk) (before roomy : BookState) (s : State) (s
           (exactly told s.entries (more_holds before roomy s.entries old more (is.holds told)))))
 
       -- the store was found at fault
-      pub fault-put : Rose old.faults new.faults → HasPut tells old new before later s s ChangeJournal Behind true
+      fault-put : Rose old.faults new.faults → HasPut tells old new before later s s ChangeJournal Behind true
       fault-put rose = record {
         journaled = λ alive. absurd (false≢true (sym alive));
+        front = (tied_by ending beginning (next_of roomy), its-behind);
         moments = tied-moments;
         still = λ alive same told. absurd (false≢true (sym alive));
         least = λ alive. absurd (false≢true (sym alive));
@@ -185,11 +260,14 @@ module _ (tells : Type 0) (old : Disk) (before roomy : BookState) (s : State) (s
         receiver = receiver ∙ more.receiver;
         roots = roots;
         faults = faults;
-        cause = λ failed. rose;
+        cause = λ failed. inl rose;
       }
 
-      pub fault-answered : HasAnswered sources s s later (As replies.StoreFault) true
-      fault-answered = untouched-answered tells old before roomy s sources job timestamp ChangeJournal running refl sound is more (attach-plain sources s job timestamp) later refl
+      fault-answered : HasAnswered sources s.entries s s later (As replies.StoreFault) true
+      fault-answered = untouched-answered tells old before roomy s s.entries reads sources job timestamp ChangeJournal running refl sound is more (attach-plain sources s.entries s job timestamp) later refl
+
+      pub fault-come : Rose old.faults new.faults → (m : State) → m ≡ remembered s → HasCome tells sources old new before later m s (As replies.StoreFault) true
+      fault-come rose m memory = come-same new later m replies.StoreFault true memory (fault-put rose) fault-answered
 
       module _ (places : PlacesLast) (enough : roomy.chain.room ≤ later.chain.room + 1) where
         lasts : HasPlaces s Done 1 roomy.chain.room
@@ -227,8 +305,9 @@ module _ (tells : Type 0) (old : Disk) (before roomy : BookState) (s : State) (s
                 | inr none ↦ omega (arith, all, was, none)
               ]
 
-          pub short-put : HasPut tells old new before later s s ChangeJournal Behind false
+          short-put : HasPut tells old new before later s s ChangeJournal Behind false
           short-put = record {
+            front = (tied_by ending beginning (next_of roomy), its-behind);
             journaled = λ alive. record { book_of = short-book; may = is.may; holds = λ told. held told s.entries (more_holds before roomy s.entries old more (is.holds told)) };
             moments = tied-moments;
             still = λ alive same told.
@@ -243,8 +322,11 @@ module _ (tells : Type 0) (old : Disk) (before roomy : BookState) (s : State) (s
             cause = λ failed. absurd (false≢true failed);
           }
 
-          pub short-answered : HasAnswered sources s s later (As replies.NoMemory) false
-          short-answered = no_memory-answered tells old before roomy s sources job timestamp ChangeJournal running refl sound is more (attach-plain sources s job timestamp) later refl
+          short-answered : HasAnswered sources s.entries s s later (As replies.NoMemory) false
+          short-answered = no_memory-answered tells old before roomy s s.entries reads sources job timestamp ChangeJournal running refl sound is more (attach-plain sources s.entries s job timestamp) later refl
+
+          pub short-come : (m : State) → m ≡ remembered s → HasCome tells sources old new before later m s (As replies.NoMemory) false
+          short-come m memory = come-same new later m replies.NoMemory false memory short-put short-answered
 
         -- the next receiver is attached on the disk, and then in memory
         module _ (stay : DepositsStay) (number_is : attached_of later.chain ≡ attached_of roomy.chain + 1) (none : later.waiting ≡ 0) (all : later.forced ≡ roomy.forced + roomy.waiting + 2)
@@ -276,12 +358,13 @@ module _ (tells : Type 0) (old : Disk) (before roomy : BookState) (s : State) (s
           its-put : HasPut tells old new before later s (after s Done) ChangeJournal Behind false
           unfolding does-it
           its-put = record {
+            front = (tied_by ending beginning (next_of roomy), its-behind);
             journaled = λ alive. record { book_of = tied-book; may = stay s Done does-it tt refl is.may; holds = tied-holds };
             moments = tied-moments;
             still = λ alive same told.
                 still-of old new before.chain.first before.forced ChangeJournal s.entries Behind (after s Done).entries
-                (behind-is tells old before roomy s sources job timestamp ChangeJournal running refl sound is more (attach-plain sources s job timestamp) Done done ∙ sym ties-after) same
-                (tied-moments told);
+                (behind-is tells old before roomy s s.entries reads sources job timestamp ChangeJournal running refl sound is more (attach-plain sources s.entries s job timestamp) Done done ∙ sym ties-after)
+                (same-entries s.entries Done.entries (after s Done).entries ties-after same) (tied-moments told);
             least = λ alive. tied-least;
             whole = λ alive. inr tied-whole;
             receiver = receiver ∙ more.receiver;
@@ -290,13 +373,20 @@ module _ (tells : Type 0) (old : Disk) (before roomy : BookState) (s : State) (s
             cause = λ failed. absurd (false≢true failed);
           }
 
-          pub tied-put : (t : State) (reply : Reply) → Answers s t (Ok reply) (Ok Done) → HasPut tells old new before later s t ChangeJournal Behind false
-          tied-put t reply (c, same, its, leads) =
-              subst (λ (u : State). HasPut tells old new before later s u ChangeJournal Behind false) (sym (leads ∙ ap (λ (x : Change). after s x) (sym (ok-same Done c same)))) its-put
-
-          pub tied-answered : AnswersStaySound → (t : State) (reply : Reply) → Answers s t (Ok reply) (Ok Done) → HasAnswered sources s t later (As reply) false
-          tied-answered stays t reply (c, same, its, leads) =
+          pub tied-come : ReadingsStaySound → (t u : State) (reply : Reply) → Answers (remembered s) t (Ok reply) (Ok Done) → u ≡ remembered t
+              → HasCome tells sources old new before later u s (As reply) false
+          tied-come stays t u reply (c, same, its, leads) forgets =
               let is_done = ok-same Done c same in
-              subst (λ (u : State). HasAnswered sources s u later (As reply) false) (sym (leads ∙ ap (λ (x : Change). after s x) (sym is_done)))
-              (subst (λ (x : Reply). HasAnswered sources s (after s Done) later (As x) false) (ap (λ (x : Change). x.reply) is_done ∙ its)
-              (done-answered tells old before roomy s sources job timestamp ChangeJournal running refl sound is more (attach-plain sources s job timestamp) Done done stays later (λ forced. none)))
+              record {
+                read = s.entries;
+                may = reads;
+                own = λ told. refl;
+                to = after s Done;
+                memory = forgets ∙ remembered-after s t c leads ∙ ap (λ (x : Change). remembered (after s x)) (sym is_done);
+                put = its-put;
+                answered =
+                    subst (λ (x : Reply). HasAnswered sources s.entries s (after s Done) later (As x) false) (ap (λ (x : Change). x.reply) is_done ∙ its)
+                    (done-answered tells old before roomy s s.entries reads sources job timestamp ChangeJournal running refl sound is more (attach-plain sources s.entries s job timestamp) Done done stays later
+                    (λ forced. none));
+              }
+

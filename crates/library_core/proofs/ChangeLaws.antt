@@ -80,19 +80,19 @@ found-behind : (o : Option ℕ) → ((last : ℕ) → o ≡ Some last → 1 ≤ 
 found-behind None some = refl
 found-behind (Some last) some = is-positive last (some last refl)
 
-still-needed : (s : State) (number : ℕ) → AreNumbered (s.gone + 1) s.entries → s.checkpoint ≡ 0 → is_needed number s.entries (memory_of s) ≡ true
-still-needed s number numbered unsaved =
-    or-true (number == s.receivers.attached) (option_map_or (λ (last : ℕ). nat_lt s.checkpoint last) (last_in number s.entries) true)
-    (subst (λ (c : ℕ). option_map_or (λ (last : ℕ). nat_lt c last) (last_in number s.entries) true ≡ true) (sym unsaved)
-    (found-behind (last_in number s.entries) (λ last is. let within = found-within number (s.gone + 1) s.entries last numbered is in omega (arith, within.0))))
+pub still-needed : (s : State) (read : List Entry) (number : ℕ) → AreNumbered (s.gone + 1) read → s.checkpoint ≡ 0 → is_needed number read (memory_of s) ≡ true
+still-needed s read number numbered unsaved =
+    or-true (number == s.receivers.attached) (option_map_or (λ (last : ℕ). nat_lt s.checkpoint last) (last_in number read) true)
+    (subst (λ (c : ℕ). option_map_or (λ (last : ℕ). nat_lt c last) (last_in number read) true ≡ true) (sym unsaved)
+    (found-behind (last_in number read) (λ last is. let within = found-within number (s.gone + 1) read last numbered is in omega (arith, within.0))))
 
-pub gives_up-none : (s : State) → AreNumbered (s.gone + 1) s.entries → s.checkpoint ≡ 0 → GivesUpNone s.entries (memory_of s)
+pub gives_up-none : (s : State) (read : List Entry) → AreNumbered (s.gone + 1) read → s.checkpoint ≡ 0 → GivesUpNone read (memory_of s)
 unfolding give_up_plan
-gives_up-none s numbered unsaved args n h =
+gives_up-none s read numbered unsaved args n h =
     let m = memory_of s in
     let kept = bind-ok (refuse_if (not (is_kept args.number m)) (NoSuchName (Receiver args.number))) _ n h in
-    let need = bind-ok (refuse_if (is_needed args.number s.entries m) (StillNeeded (m.checkpoint + 1))) _ n kept.2 in
-    absurd (false≢true (sym (not-refused (is_needed args.number s.entries m) _ need.0 need.1) ∙ still-needed s args.number numbered unsaved))
+    let need = bind-ok (refuse_if (is_needed args.number read m) (StillNeeded (m.checkpoint + 1))) _ n kept.2 in
+    absurd (false≢true (sym (not-refused (is_needed args.number read m) _ need.0 need.1) ∙ still-needed s read args.number numbered unsaved))
 
 -- ---- all requests
 

@@ -13,8 +13,11 @@ use Rattle.journal_book.specs.Kept.{IsForcedOrFrom, SpellEntries}
 use Rattle.journal_book.proofs.Deposits.{more_holds}
 use Rattle.journal_book.proofs.Forcing.{all_counted, forced_left}
 use Rattle.library_steps.specs.State.{State, begun}
-use Rattle.kept_library.specs.Journaled.{IsBookOf, IsJournaled}
+use Rattle.kept_library.specs.Journaled.{IsBookOf, IsJournaled, IsRemembered}
+use Rattle.kept_library.specs.Parts.{LibraryOver}
+use Rattle.kept_library.specs.Stands.{Stands}
 use Rattle.library_core.specs.Laws.{DepositsBegin, IsBehind, PlacesBegin}
+use Rattle.library_core.proofs.BegunLemmas.{begun-sound}
 
 pub more-none : (book : BookState) → HasMoreRoom book book
 more-none book = record {
@@ -80,7 +83,7 @@ more-journaled tells disk old new s more is = record {
 
 -- ---- a job that begins
 
-pub begun-journaled : DepositsBegin → PlacesBegin → (tells : Type 0) (disk : Disk) (old new : BookState) (s : State) (name : List ℕ) → length s.jobs ≤ 4294967294 → HasMoreRoom old new
+begun-journaled : DepositsBegin → PlacesBegin → (tells : Type 0) (disk : Disk) (old new : BookState) (s : State) (name : List ℕ) → length s.jobs ≤ 4294967294 → HasMoreRoom old new
     → 2 * length s.jobs + 1 ≤ new.chain.room
     → IsJournaled tells disk old s → IsJournaled tells disk new (begun s (name ∷ []))
 begun-journaled begin places tells disk old new s name few more made is =
@@ -98,11 +101,47 @@ begun-journaled begin places tells disk old new s name few more made is =
       holds = λ told. more_holds old new s.entries disk more (is.holds told);
     }
 
--- by whether there was memory for it
-pub begun-by : {E : Type 0} → DepositsBegin → PlacesBegin → (tells : Type 0) (disk : Disk) (old new : BookState) (s t : State) (name : List ℕ) (r : Result ℕ E) → length s.jobs ≤ 4294967294
-    → HasMoreRoom old new
-    → OnOk r (2 * length s.jobs + 1 ≤ new.chain.room) → OnOk r (t ≡ begun s (name ∷ [])) → OnErr r (t ≡ s) → IsJournaled tells disk old s → IsJournaled tells disk new t
-begun-by begin places tells disk old new s t name (Ok n) few more made is_begun unchanged is =
-    subst (λ (u : State). IsJournaled tells disk new u) (sym is_begun) (begun-journaled begin places tells disk old new s name few more made is)
-begun-by begin places tells disk old new s t name (Err e) few more made is_begun unchanged is =
-    subst (λ (u : State). IsJournaled tells disk new u) (sym unchanged) (more-journaled tells disk old new s more is)
+-- the state is remembered with the job
+pub begun-remembered : DepositsBegin → PlacesBegin → (tells : Type 0) (disk : Disk) (old new : BookState) (m t s : State) (name : List ℕ) → length m.jobs ≤ 4294967294 → HasMoreRoom old new
+    → 2 * length m.jobs + 1 ≤ new.chain.room → t ≡ begun m (name ∷ []) → IsRemembered tells disk old m s → IsRemembered tells disk new t (begun s (name ∷ []))
+begun-remembered begin places tells disk old new m t s name few more made is_begun is =
+    let jobs : length m.jobs ≡ length s.jobs = ap (λ (u : State). length u.jobs) is.memory in
+    record {
+      memory = is_begun ∙ ap (λ (u : State). begun u (name ∷ [])) is.memory;
+      sound = begun-sound s name is.sound;
+      journaled = begun-journaled begin places tells disk old new s name (omega (arith, few, jobs)) more (omega (arith, made, jobs)) is.journaled;
+    }
+
+-- or where there was no memory for it
+pub more-remembered : (tells : Type 0) (disk : Disk) (old new : BookState) (m t s : State) → HasMoreRoom old new → t ≡ m → IsRemembered tells disk old m s → IsRemembered tells disk new t s
+more-remembered tells disk old new m t s more same is = record { memory = same ∙ is.memory; sound = is.sound; journaled = more-journaled tells disk old new s more is.journaled }
+
+-- by whether there was
+pub begun-by : {E : Type 0} → DepositsBegin → PlacesBegin → (tells : Type 0) (disk : Disk) (old new : BookState) (m t s : State) (name : List ℕ) (r : Result ℕ E) → length m.jobs ≤ 4294967294
+    → HasMoreRoom old new → OnOk r (2 * length m.jobs + 1 ≤ new.chain.room) → OnOk r (t ≡ begun m (name ∷ [])) → OnErr r (t ≡ m) → IsRemembered tells disk old m s
+    → (u : State) × IsRemembered tells disk new t u
+begun-by begin places tells disk old new m t s name (Ok n) few more made is_begun unchanged is =
+    (begun s (name ∷ []), begun-remembered begin places tells disk old new m t s name few more made is_begun is)
+begun-by begin places tells disk old new m t s name (Err e) few more made is_begun unchanged is = (s, more-remembered tells disk old new m t s more unchanged is)
+
+-- and what the library is then
+pub begun-stands : {S E : Type 0} → DepositsBegin → PlacesBegin → (tells : Type 0) (disk : S → Disk) (old new : LibraryOver S) (s : State) (name : List ℕ) (r : Result ℕ E)
+    → length old.state.jobs ≤ 4294967294 → HasMoreRoom old.book new.book → OnOk r (2 * length old.state.jobs + 1 ≤ new.book.chain.room) → OnOk r (new.state ≡ begun old.state (name ∷ []))
+    → new.store ≡ old.store → new.failed ≡ old.failed → Stands tells disk old s → OnOk r (Stands tells disk new (begun s (name ∷ [])))
+begun-stands {S = S} begin places tells disk old new s name (Ok n) few more made is_begun store failed stands = record {
+  alive = failed ∙ stands.alive;
+  remembered =
+      subst (λ (st : S). IsRemembered tells (disk st) new.book new.state (begun s (name ∷ []))) (sym store)
+      (begun-remembered begin places tells (disk old.store) old.book new.book old.state new.state s name few more made is_begun stands.remembered);
+}
+begun-stands begin places tells disk old new s name (Err e) few more made is_begun store failed stands = tt
+
+pub begun-stays : {S E : Type 0} (tells : Type 0) (disk : S → Disk) (old new : LibraryOver S) (s : State) (r : Result ℕ E) → HasMoreRoom old.book new.book → OnErr r (new.state ≡ old.state)
+    → new.store ≡ old.store → new.failed ≡ old.failed → Stands tells disk old s → OnErr r (Stands tells disk new s)
+begun-stays tells disk old new s (Ok n) more unchanged store failed stands = tt
+begun-stays {S = S} tells disk old new s (Err e) more unchanged store failed stands = record {
+  alive = failed ∙ stands.alive;
+  remembered =
+      subst (λ (st : S). IsRemembered tells (disk st) new.book new.state s) (sym store)
+      (more-remembered tells (disk old.store) old.book new.book old.state new.state s more unchanged stands.remembered);
+}

@@ -23,3 +23,7 @@ pub mod AnswerLemmas
 pub mod AttachLemmas
 pub mod RequestLemmas
 pub mod LibraryLemmas
+pub mod BegunLemmas
+pub mod MemoryLemmas
+pub mod ReadLemmas
+pub mod SameLemmas

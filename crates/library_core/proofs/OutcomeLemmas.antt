@@ -1,5 +1,5 @@
 -- What holds of a call whatever is asked: its journal goes on behind the entries that were there; where nothing is done it stays; and what is answered.
-use Rattle.std.proofs.Common.{◌≡◌, inl, inr, ℕ, ◌-◌, Bool, true, false, if◌then◌else◌, IsTrue, List, [], ◌++◌, length, drop, append-nil, Result, Ok, Err, refl, sym, ◌∙◌, ap, subst, arith}
+use Rattle.std.proofs.Common.{◌≡◌, inl, inr, ℕ, ◌-◌, Bool, true, false, if◌then◌else◌, IsTrue, List, [], ◌∷◌, ◌++◌, length, length-append, drop, append-nil, Result, Ok, Err, refl, sym, ◌∙◌, ap, subst, arith}
 use Rattle.std.specs.Prelude.{IsErrOf}
 use Rattle.std.proofs.lemmas.Bool.{false≢true}
 use Rattle.store_model.specs.Disk.{Disk, Leaves}
@@ -19,15 +19,14 @@ use Rattle.library_model.specs.declared.sources.NamedSource.{NamedSource}
 use Rattle.library_steps.specs.State.{Memory, State, job_at, memory_of}
 use Rattle.library_steps.specs.Change.{Change, changed}
 use Rattle.library_steps.specs.History.{is_running}
-use Rattle.library_steps.specs.Step.{change, step}
+use Rattle.library_steps.specs.Step.{change}
 use Rattle.library_parts.specs.declared.stop.Stop.{Stop}
 use Rattle.library_parts.specs.declared.stop.Stop.TheVariants as stop
-use Rattle.joint_state.specs.Sound.{IsSound, after}
-use Rattle.sound_histories.proofs.HistoryLemmas.{AnswersStaySound}
-use Rattle.journal_fronts.specs.Fronts.{IsAcknowledged}
+use Rattle.joint_state.specs.Sound.{IsSound, MayBeRead, after}
+use Rattle.sound_histories.proofs.HistoryLemmas.{ReadingsStaySound}
 use Rattle.kept_library.specs.Journaled.{IsJournaled}
 use Rattle.library_core.specs.Laws.{is_fault}
-use Rattle.library_core.specs.Puts.{HasAnswered, HasPut}
+use Rattle.library_core.specs.Puts.{HasAnswered, HasPut, IsAcknowledgedReading}
 use Rattle.kept_library.specs.Stands.{whole_from}
 use Rattle.library_core.proofs.CallLemmas.{may-answer, runs-answered, sound-answered}
 use Rattle.library_core.proofs.JournalLemmas.{moment-still, more-journaled}
@@ -41,6 +40,14 @@ whole-still r entries = by (switches r)
     by : (b : Bool) → (if b then length entries else length entries) ≡ length entries
     by true = refl
     by false = refl
+
+-- a list with others behind it that is no longer is the list
+none-more : (entries more : List Entry) → length (entries ++ more) ≡ length entries → entries ++ more ≡ entries
+none-more entries [] same = append-nil entries
+none-more entries (e ∷ more) same = absurd (let counted = length-append entries (e ∷ more) in omega (arith, same, counted))
+
+pub same-entries : (entries more after : List Entry) → after ≡ entries ++ more → length after ≡ length entries → after ≡ entries
+same-entries entries more after is same = is ∙ none-more entries more (sym (ap (λ (l : List Entry). length l) is) ∙ same)
 
 pub still-of : (old new : Disk) (first forced : ℕ) (r : Request) (entries behind after : List Entry) → behind ≡ after → after ≡ entries
     → Leaves old new (IsForcedOrFrom first forced (whole_from r entries behind) behind) → Leaves old new (IsForcedOrFrom first forced (length entries) entries)
@@ -88,25 +95,26 @@ pub record IsPlain (m : Memory) (c : Change) : Type 0 where
   pub checkpoint : c.memory.checkpoint ≡ m.checkpoint
   pub told : is_fault c.reply ≡ false
 
-module _ (tells : Type 0) (old : Disk) (before roomy : BookState) (s : State) (sources : List NamedSource) (job timestamp : ℕ) (r : Request) (running : IsTrue (is_running (job_at job s.jobs)))
-    (built : IsTrue (is_built r)) (sound : IsSound s) (is : IsJournaled tells old before s) (more : HasMoreRoom before roomy)
-    (plain : (c : Change) → change sources s.entries (memory_of s) job timestamp r ≡ Ok c → IsPlain (memory_of s) c) where
+module _ (tells : Type 0) (old : Disk) (before roomy : BookState) (s : State) (read : List Entry) (reads : MayBeRead s read) (sources : List NamedSource) (job timestamp : ℕ) (r : Request)
+    (running : IsTrue (is_running (job_at job s.jobs))) (built : IsTrue (is_built r)) (sound : IsSound s) (is : IsJournaled tells old before s) (more : HasMoreRoom before roomy)
+    (plain : (c : Change) → change sources read (memory_of s) job timestamp r ≡ Ok c → IsPlain (memory_of s) c) where
   abbrev Wanted : Result Change Reply
-  Wanted = change sources s.entries (memory_of s) job timestamp r
+  Wanted = change sources read (memory_of s) job timestamp r
 
   abbrev Behind : List Entry
-  Behind = (step sources s job timestamp r).0.entries
+  Behind = (changed s Wanted).0.entries
 
   abbrev As : Reply → Call
   As reply = record { job = job; timestamp = timestamp; request = r; reply = reply }
 
-  front : (rest : List Entry) × (Behind ≡ s.entries ++ rest)
+  pub front : (rest : List Entry) × (Behind ≡ s.entries ++ rest)
   front = behind-front s Wanted (λ c done. (plain c done).gone)
 
   -- nothing was done
   pub stopped-put : HasPut tells old old before roomy s s r Behind false
   stopped-put = record {
     journaled = λ alive. more-journaled tells old before roomy s more is;
+    front = front;
     moments = λ told. moment-still before s.entries front.0 Behind (whole_from r s.entries Behind) old (is.holds told) front.1;
     still = λ alive same told. none_exactly before s.entries old (is.holds told);
     least = λ alive. omega (arith, more.forced);
@@ -117,43 +125,43 @@ module _ (tells : Type 0) (old : Disk) (before roomy : BookState) (s : State) (s
     cause = λ failed. absurd (false≢true failed);
   }
 
-  pub no_memory-acknowledged : (later : BookState) → IsAcknowledged sources s (As replies.NoMemory) → later.waiting ≡ 0
+  pub no_memory-acknowledged : (later : BookState) → IsAcknowledgedReading sources read s (As replies.NoMemory) → later.waiting ≡ 0
   no_memory-acknowledged later asked = absurd (no-fault asked.done.reply replies.NoMemory (plain asked.done asked.is).told refl (sym asked.answered))
 
-  fault-acknowledged : (later : BookState) → IsAcknowledged sources s (As replies.StoreFault) → later.waiting ≡ 0
+  fault-acknowledged : (later : BookState) → IsAcknowledgedReading sources read s (As replies.StoreFault) → later.waiting ≡ 0
   fault-acknowledged later asked = absurd (no-fault asked.done.reply replies.StoreFault (plain asked.done asked.is).told refl (sym asked.answered))
 
-  refused-acknowledged : (later : BookState) (reply : Reply) → Wanted ≡ Err reply → IsAcknowledged sources s (As reply) → later.waiting ≡ 0
+  refused-acknowledged : (later : BookState) (reply : Reply) → Wanted ≡ Err reply → IsAcknowledgedReading sources read s (As reply) → later.waiting ≡ 0
   refused-acknowledged later reply refused asked = absurd (ok-err asked.done reply (sym asked.is ∙ refused))
 
-  pub no_memory-answered : (later : BookState) → IsTrue (needs_memory r) → HasAnswered sources s s later (As replies.NoMemory) false
+  pub no_memory-answered : (later : BookState) → IsTrue (needs_memory r) → HasAnswered sources read s s later (As replies.NoMemory) false
   no_memory-answered later needs = record {
     answered = λ alive. inr (refl, refl, needs);
     fault = λ failed. absurd (false≢true failed);
     other = λ alive is. memory-no_fault is;
-    runs = runs-answered sources s s job timestamp r running built (Err stop.NoMemory) refl (λ is. needs);
+    runs = runs-answered sources read s s job timestamp r running built (Err stop.NoMemory) refl (λ is. needs);
     sound = sound;
     acknowledged = no_memory-acknowledged later;
   }
 
   -- it was refused
-  pub refused-answered : (later : BookState) (reply : Reply) → Wanted ≡ Err reply → HasAnswered sources s s later (As reply) false
+  pub refused-answered : (later : BookState) (reply : Reply) → Wanted ≡ Err reply → HasAnswered sources read s s later (As reply) false
   refused-answered later reply refused = record {
-    answered = λ alive. may-answer sources s s job timestamp r (Err (stop.Refused reply)) (refl, refused) (refused-memory reply);
+    answered = λ alive. may-answer sources read s s job timestamp r (Err (stop.Refused reply)) (refl, refused) (refused-memory reply);
     fault = λ failed. absurd (false≢true failed);
-    other = λ alive is. no-fault reply replies.StoreFault (refused-told sources s.entries (memory_of s) job timestamp r reply built refused) refl is;
-    runs = runs-answered sources s s job timestamp r running built (Err (stop.Refused reply)) (refl, refused) (refused-memory reply);
+    other = λ alive is. no-fault reply replies.StoreFault (refused-told sources read (memory_of s) job timestamp r reply built refused) refl is;
+    runs = runs-answered sources read s s job timestamp r running built (Err (stop.Refused reply)) (refl, refused) (refused-memory reply);
     sound = sound;
     acknowledged = refused-acknowledged later reply refused;
   }
 
   -- the store was found at fault before anything was done in memory
-  pub untouched-answered : (later : BookState) → IsTrue (needs_memory r) → HasAnswered sources s s later (As replies.StoreFault) true
+  pub untouched-answered : (later : BookState) → IsTrue (needs_memory r) → HasAnswered sources read s s later (As replies.StoreFault) true
   untouched-answered later needs = record {
     answered = λ alive. absurd (false≢true (sym alive));
     fault = λ failed. refl;
     other = λ alive. absurd (false≢true (sym alive));
-    runs = runs-answered sources s s job timestamp r running built (Err stop.NoMemory) refl (λ is. needs);
+    runs = runs-answered sources read s s job timestamp r running built (Err stop.NoMemory) refl (λ is. needs);
     sound = sound;
     acknowledged = fault-acknowledged later;
   }
@@ -166,26 +174,26 @@ module _ (tells : Type 0) (old : Disk) (before roomy : BookState) (s : State) (s
     pub behind-is : Behind ≡ s.entries ++ c.entries
     behind-is = ap (λ (w : Result Change Reply). (changed s w).0.entries) done ∙ after-entries
 
-    done-waits : (later : BookState) → (c.forced ≡ true → later.waiting ≡ 0) → IsAcknowledged sources s (As c.reply) → later.waiting ≡ 0
+    done-waits : (later : BookState) → (c.forced ≡ true → later.waiting ≡ 0) → IsAcknowledgedReading sources read s (As c.reply) → later.waiting ≡ 0
     done-waits later forced asked = forced (sym (ap (λ (x : Change). x.forced) (ok-same asked.done c (sym asked.is ∙ done))) ∙ asked.forced)
 
-    pub done-answered : AnswersStaySound → (later : BookState) → (c.forced ≡ true → later.waiting ≡ 0) → HasAnswered sources s (after s c) later (As c.reply) false
+    pub done-answered : ReadingsStaySound → (later : BookState) → (c.forced ≡ true → later.waiting ≡ 0) → HasAnswered sources read s (after s c) later (As c.reply) false
     done-answered stays later forced = record {
-      answered = λ alive. may-answer sources s (after s c) job timestamp r (Ok c.reply) (c, done, refl, refl) (done-memory c.reply);
+      answered = λ alive. may-answer sources read s (after s c) job timestamp r (Ok c.reply) (c, done, refl, refl) (done-memory c.reply);
       fault = λ failed. absurd (false≢true failed);
       other = λ alive is. no-fault c.reply replies.StoreFault (plain c done).told refl is;
-      runs = runs-answered sources s (after s c) job timestamp r running built (Ok c.reply) (c, done, refl, refl) (done-memory c.reply);
-      sound = sound-answered stays sources s (after s c) job timestamp r running sound (Ok c.reply) (c, done, refl, refl) (done-memory c.reply);
+      runs = runs-answered sources read s (after s c) job timestamp r running built (Ok c.reply) (c, done, refl, refl) (done-memory c.reply);
+      sound = sound-answered stays sources read s (after s c) job timestamp r running sound reads (Ok c.reply) (c, done, refl, refl) (done-memory c.reply);
       acknowledged = done-waits later forced;
     }
 
     -- and the store was found at fault then
-    pub fault-answered : AnswersStaySound → (later : BookState) → HasAnswered sources s (after s c) later (As replies.StoreFault) true
+    pub fault-answered : ReadingsStaySound → (later : BookState) → HasAnswered sources read s (after s c) later (As replies.StoreFault) true
     fault-answered stays later = record {
       answered = λ alive. absurd (false≢true (sym alive));
       fault = λ failed. refl;
       other = λ alive. absurd (false≢true (sym alive));
-      runs = runs-answered sources s (after s c) job timestamp r running built (Ok c.reply) (c, done, refl, refl) (done-memory c.reply);
-      sound = sound-answered stays sources s (after s c) job timestamp r running sound (Ok c.reply) (c, done, refl, refl) (done-memory c.reply);
+      runs = runs-answered sources read s (after s c) job timestamp r running built (Ok c.reply) (c, done, refl, refl) (done-memory c.reply);
+      sound = sound-answered stays sources read s (after s c) job timestamp r running sound reads (Ok c.reply) (c, done, refl, refl) (done-memory c.reply);
       acknowledged = fault-acknowledged later;
     }

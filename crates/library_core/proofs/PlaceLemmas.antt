@@ -87,7 +87,7 @@ module _ (s : State) (done : Change) (d : Does s done) (room : ℕ) (most : plac
   free-places : places_due s.jobs ≤ room → needs_memory d.request ≡ false → places_due done.memory.jobs + place_used done ≤ places_due s.jobs
       → HasPlaces s done (places_taken d.request done.entries) room
   free-places due free spent =
-      let used = free-used d.sources s.entries (memory_of s) d.job d.timestamp d.request done free d.does in
+      let used = free-used d.sources d.read (memory_of s) d.job d.timestamp d.request done free d.does in
       record {
         there = omega (arith, used, due, spent);
         behind = λ left enough. omega (arith, used, due, spent, enough);

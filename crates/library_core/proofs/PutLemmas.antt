@@ -1,9 +1,8 @@
 -- The entries of a call, put into the journal, or none.
 use Rattle.std.proofs.Common.{◌≡◌, ◌⊎◌, inl, inr, ◌+◌, ◌<◌, ◌≤◌, ℕ, Bool, true, false, ◌||◌, if◌then◌else◌, List, [], ◌∷◌, ◌++◌, length, append-nil, Result, Ok, Err, OnOk, refl, sym, ◌∙◌, ap, subst}
-use Rattle.std.proofs.Common.{arith, ◌-◌, drop, take}
+use Rattle.std.proofs.Common.{arith}
 use Rattle.std.specs.Prelude.{IsErr, IsOk}
 use Rattle.std.proofs.lemmas.Bool.{false≢true}
-use Rattle.std.proofs.lemmas.List.{length-drop, take_all}
 use Rattle.store_model.specs.Disk.{Disk, Leaves}
 use Rattle.store_model.specs.Faults.{Rose}
 use Rattle.entry_codec.specs.declared.entries.Entry.{Entry}
@@ -29,10 +28,6 @@ place-there request entries room put enough = omega (arith, one-place request en
 ok-map : {A E P Q : Type 0} (r : Result A E) → (P → Q) → OnOk r P → OnOk r Q
 ok-map (Ok a) goes here = goes here
 ok-map (Err e) goes here = here
-
--- what stands behind so many is all of that
-pub all-behind : (n : ℕ) (xs : List Entry) → take (length xs - n) (drop n xs) ≡ drop n xs
-all-behind n xs = take_all (length xs - n) (drop n xs) (omega (arith, length-drop n xs))
 
 -- ---- whether the request was done
 

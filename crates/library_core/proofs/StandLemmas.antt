@@ -1,12 +1,14 @@
 -- In a sound library the changes of a job's open commit cycle stand as they were made.
-use Rattle.std.proofs.Common.{◌≡◌, ℕ, ◌-◌, ◌==◌, true, false, if◌then◌else◌, List, [], ◌∷◌, Option, Some, None, slice_get, refl}
+use Rattle.std.proofs.Common.{◌≡◌, ℕ, ◌-◌, ◌==◌, true, false, if◌then◌else◌, List, [], ◌∷◌, Option, Some, None, slice_get, refl, sym, subst}
 use Rattle.member_slots.specs.Members.{NumberedMembers}
 use Rattle.journal_model.specs.Rollback.{MemberChange}
 use Rattle.library_steps.specs.State.{State, JobState, memory_of, job_at, job_of, or_new}
 use Rattle.library_steps.specs.Uses.{changes_in}
 use Rattle.joint_state.specs.Cycles as cycles
 use Rattle.joint_state.specs.Sound.{IsSound}
+use Rattle.joint_state.specs.Views.{HaveDefaults}
 use Rattle.lawful_states.specs.Back.{member_back}
+use Rattle.library_parts.specs.Remembered.{remembered}
 use Rattle.library_parts.specs.Standing.{StandAsMade}
 
 stand-same : (undos : List MemberChange) (members : NumberedMembers) → cycles.StandAsMade undos members → StandAsMade undos members
@@ -26,7 +28,14 @@ at-place number jobs job =
       | false ↦ λ at. at
     ]
 
-pub changes-stand : (s : State) (job : ℕ) → IsSound s → StandAsMade (changes_in (job_of job (memory_of s)).cycle) s.members
+changes-stand : (s : State) (job : ℕ) → IsSound s → StandAsMade (changes_in (job_of job (memory_of s)).cycle) s.members
 changes-stand s number sound =
     stand-of s.members (job_at number s.jobs)
     (λ job at. stand-same (changes_in job.cycle) s.members (sound.joint.jobs (number - 1) job (at-place number s.jobs job at)).made)
+
+-- the same over what is remembered
+pub stand-over : (m s : State) (job : ℕ) → m ≡ remembered s → IsSound s → StandAsMade (changes_in (job_of job (memory_of m)).cycle) m.members
+stand-over m s job memory sound = subst (λ (u : State). StandAsMade (changes_in (job_of job (memory_of u)).cycle) u.members) (sym memory) (changes-stand s job sound)
+
+pub defaults-over : (m s : State) → m ≡ remembered s → IsSound s → HaveDefaults m.files
+defaults-over m s memory sound = subst (λ (u : State). HaveDefaults u.files) (sym memory) sound.defaults

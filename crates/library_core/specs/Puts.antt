@@ -14,16 +14,18 @@ use Rattle.library_model.specs.declared.replies.Reply.{Reply}
 use Rattle.library_model.specs.declared.replies.Reply.TheVariants as reply
 use Rattle.library_model.specs.declared.requests.Request.{Request}
 use Rattle.library_model.specs.declared.sources.NamedSource.{NamedSource}
-use Rattle.library_steps.specs.State.{State, job_at}
+use Rattle.library_steps.specs.State.{State, job_at, memory_of}
+use Rattle.library_steps.specs.Change.{Change, changed}
 use Rattle.library_steps.specs.History.{is_running}
-use Rattle.library_steps.specs.Step.{MayAnswer}
+use Rattle.library_steps.specs.Step.{change}
 use Rattle.library_parts.specs.Answers.{reply_of}
+use Rattle.library_parts.specs.Remembered.{remembered}
 use Rattle.library_parts.specs.declared.stop.Stop.{Stop}
 use Rattle.block_places.specs.Dues.{has_entries}
 use Rattle.forced_calls.specs.Forced.{is_forced}
-use Rattle.joint_state.specs.Sound.{IsSound}
-use Rattle.journal_fronts.specs.Fronts.{IsAcknowledged}
+use Rattle.joint_state.specs.Sound.{IsSound, MayAnswerReading, MayBeRead}
 use Rattle.kept_library.specs.Journaled.{IsJournaled}
+use Rattle.library_core.specs.Reads.{reads_journal}
 use Rattle.library_core.specs.Running.{runs_after}
 use Rattle.kept_library.specs.Stands.{whole_from}
 
@@ -60,25 +62,53 @@ abbrev pub answer_given : Result (Unit {0}) StoreFault → Result Reply Stop →
 answer_given (Ok nothing) done = (reply_of done, false)
 answer_given (Err fault) done = (reply.StoreFault, true)
 
+-- the entries behind a call, where the journal's entries were read as these and no store call fails
+abbrev pub entries_reading : List NamedSource → (read : List Entry) → State → Call → List Entry
+entries_reading sources read s call = (changed s (change sources read (memory_of s) call.job call.timestamp call.request)).0.entries
+
+-- the call's change asks to be on the disk before it is answered, and it was answered, where the journal's entries were read as these
+pub record IsAcknowledgedReading (sources : List NamedSource) (read : List Entry) (s : State) (call : Call) : Type 0 where
+  pub done : Change
+  pub is : change sources read (memory_of s) call.job call.timestamp call.request ≡ Ok done
+  pub forced : done.forced ≡ true
+  pub answered : call.reply ≡ done.reply
+
+-- the store was found at fault: its count of faults rose, or it tells nothing of its bytes and a request read others than those of a journal of the library
+abbrev pub IsAtFault : (tells : Type 0) → (old new : Disk) → Request → Type 0
+IsAtFault tells old new request = Rose old.faults new.faults ⊎ ((reads_journal request ≡ true) × (tells → ⊥))
+
 -- a call that led from one state to another has brought these entries into the journal, in place of the first state's; or the store has failed. A stop
 -- leaves the entries that were forced before, or all
 pub record HasPut (tells : Type 0) (old new : Disk) (before after : BookState) (s t : State) (request : Request) (behind : List Entry) (failed : Bool) : Type 0 where
   pub journaled : failed ≡ false → IsJournaled tells new after t
+  -- those that were there, and others
+  pub front : (more : List Entry) × (behind ≡ s.entries ++ more)
   pub moments : tells → Leaves old new (IsForcedOrFrom before.chain.first before.forced (whole_from request s.entries behind) behind)
-  -- where the call has left the entries as they were, it leaves no others
-  pub still : failed ≡ false → t.entries ≡ s.entries → tells → Leaves old new (IsForcedOrFrom before.chain.first before.forced (length s.entries) s.entries)
+  -- where the call has left as many entries as there were, it leaves no others
+  pub still : failed ≡ false → length t.entries ≡ length s.entries → tells → Leaves old new (IsForcedOrFrom before.chain.first before.forced (length s.entries) s.entries)
   pub least : failed ≡ false → before.forced ≤ after.forced
   pub whole : failed ≡ false → (after.forced ≡ before.forced) ⊎ (after.forced ≡ length t.entries)
   pub receiver : after.chain.first ≡ before.chain.first
   pub roots : LeavesRoots old new
   pub faults : old.faults ≤ new.faults
-  pub cause : failed ≡ true → Rose old.faults new.faults
+  pub cause : failed ≡ true → IsAtFault tells old new request
 
--- the call was answered from this state, or with the store's fault; what holds between calls holds in the state that it led to
-pub record HasAnswered (sources : List NamedSource) (s t : State) (after : BookState) (call : Call) (failed : Bool) : Type 0 where
-  pub answered : failed ≡ false → MayAnswer sources s call.job call.timestamp call.request call.reply t
+-- the call was answered from this state, where the journal's entries were read as these, or with the store's fault; what holds between calls holds in the
+-- state that it led to
+pub record HasAnswered (sources : List NamedSource) (read : List Entry) (s t : State) (after : BookState) (call : Call) (failed : Bool) : Type 0 where
+  pub answered : failed ≡ false → MayAnswerReading sources read s call.job call.timestamp call.request call.reply t
   pub fault : failed ≡ true → call.reply ≡ reply.StoreFault
   pub other : failed ≡ false → call.reply ≢ reply.StoreFault
   pub runs : (other : ℕ) → is_running (job_at other t.jobs) ≡ runs_after call.job call.request s.jobs other
   pub sound : IsSound t
-  pub acknowledged : IsAcknowledged sources s call → after.waiting ≡ 0
+  pub acknowledged : IsAcknowledgedReading sources read s call → after.waiting ≡ 0
+
+-- the call led the library from this state to another, of which the memory has all but the journal's entries
+pub record HasCome (tells : Type 0) (sources : List NamedSource) (old new : Disk) (before after : BookState) (m s : State) (call : Call) (failed : Bool) : Type 0 where
+  pub read : List Entry
+  pub may : MayBeRead s read
+  pub own : tells → read ≡ s.entries
+  pub to : State
+  pub memory : m ≡ remembered to
+  pub put : HasPut tells old new before after s to call.request (entries_reading sources read s call) failed
+  pub answered : HasAnswered sources read s to after call failed

@@ -1,30 +1,34 @@
-//! How a request is answered where the journal stands on a disk: room for its block is made first, and what it deposits is forced behind it. `library.rt`
-//! has the library.
-ghost use Rattle.std.specs.Prelude.{◌≡◌, ◌+◌, ◌*◌, ◌≤◌, ◌<◌, true, false, Ok, List, drop, length, IfOk, IsErr, IsOk, IsTrue, OnOk};
+//! How a request is answered where the journal stands on a disk alone: what it reads is read first, room for its block is made, and what it deposits is put
+//! behind it and forgotten. `library.rt` has the library.
+ghost use Rattle.std.specs.Prelude.{◌≡◌, ◌+◌, ◌*◌, ◌≤◌, ◌<◌, true, false, Ok, List, length, IfOk, IsErr, IsOk, IsTrue, OnOk};
+ghost use Rattle.entry_codec.specs.declared.entries.Entry.{Entry};
 ghost use Rattle.journal_book.specs.Book.{HasMoreRoom, IsHeld};
 ghost use Rattle.kept_journal.specs.Journals.{MayWait};
 ghost use Rattle.built_requests.specs.Built.{is_built};
 ghost use Rattle.deposited_entries.specs.Deposits.{AreShort, switches};
 ghost use Rattle.block_places.specs.Dues.{has_entries};
-ghost use Rattle.joint_state.specs.Sound.{IsSound};
 ghost use Rattle.library_model.specs.NeedsMemory.{needs_memory};
 ghost use Rattle.library_model.specs.declared.requests.Request.TheVariants.{ChangeJournal};
 ghost use Rattle.library_model.specs.declared.sources.NamedSource.{NamedSource};
-ghost use Rattle.library_steps.specs.State.{job_at, memory_of};
+ghost use Rattle.library_steps.specs.State.{State, job_at, memory_of};
 ghost use Rattle.library_steps.specs.History.{is_running};
-ghost use Rattle.library_steps.specs.Receivers.{attach_plan};
+ghost use Rattle.library_steps.specs.Receivers.{attach_change, attach_plan};
 ghost use Rattle.library_steps.specs.declared.limits.TheConstants.{LAST_RECEIVER, LAST_SEQUENCE};
-ghost use Rattle.library_parts.specs.Answers.{Gives, reply_of};
-ghost use Rattle.journal_fronts.specs.Fronts.{entries_behind};
-ghost use Rattle.kept_library.specs.Journaled.{IsJournaled};
-ghost use Rattle.library_core.specs.Puts.{HasAnswered, HasPut, HasTaken, answer_given, are_put, places_taken};
+ghost use Rattle.memory_journal.specs.Blanks.{in_memory};
+ghost use Rattle.library_parts.specs.Answers.{Answers, Gives, reply_of};
+ghost use Rattle.library_parts.specs.Remembered.{remembered};
+ghost use Rattle.kept_library.specs.Journaled.{IsRemembered};
+ghost use Rattle.library_core.specs.Puts.{HasCome, HasTaken, answer_given, are_put, places_taken};
+ghost use Rattle.library_core.specs.Reads.{IsReadOf};
 
 use crate::dispatch::perform;
 use crate::kinds;
 use crate::laws::journal_lasts;
+use crate::reading::{ReadFault, read_for};
 use entry_codec::Entry;
 use forced_calls::is_forced;
 use gated_log::StoreFault;
+use journal_reads::Stretch;
 use journal_requests::{apply_attach, attach_drafts, plan_attach, prepare_attach};
 use kept_journal::{KeptJournal, MUCH};
 use library_model::replies::Reply;
@@ -52,10 +56,8 @@ pub(crate) fn answer<S: Store>(
     requires running { IsTrue (is_running (job_at job contents.old.state.jobs)) }
     requires built { IsTrue (is_built request.now) }
     requires short { AreShort sources.now }
-    requires sound { IsSound contents.old.state }
-    requires journaled { IsJournaled S.tells (S.disk store.old) journal.old contents.old.state }
-    ensures put { HasPut S.tells (S.disk store.old) (S.disk store.new) journal.old journal.new contents.old.state contents.new.state request.now (entries_behind sources.now contents.old.state (record { job = job; timestamp = timestamp; request = request.now; reply = result.0 })) result.1 }
-    ensures answered { HasAnswered sources.now contents.old.state contents.new.state journal.new (record { job = job; timestamp = timestamp; request = request.now; reply = result.0 }) result.1 }
+    requires kept { (s : State) × IsRemembered S.tells (S.disk store.old) journal.old contents.old.state s }
+    ensures { (s : State) → IsRemembered S.tells (S.disk store.old) journal.old contents.old.state s → HasCome S.tells sources.now (S.disk store.old) (S.disk store.new) journal.old journal.new contents.new.state s (record { job = job; timestamp = timestamp; request = request.now; reply = result.0 }) result.1 }
 {
     if kinds::switches(request) {
         attach_receiver(contents, journal, store, job, timestamp)
@@ -64,7 +66,7 @@ pub(crate) fn answer<S: Store>(
     }
 }
 
-/// Answers any request but CHGJRN.
+/// Answers any request but CHGJRN: what it reads of the journal is read first.
 fn answer_other<S: Store>(
     contents: &mut Contents,
     journal: &mut KeptJournal,
@@ -78,10 +80,36 @@ fn answer_other<S: Store>(
     requires built { IsTrue (is_built request.now) }
     requires short { AreShort sources.now }
     requires other { switches request.now ≡ false }
-    requires sound { IsSound contents.old.state }
-    requires journaled { IsJournaled S.tells (S.disk store.old) journal.old contents.old.state }
-    ensures put { HasPut S.tells (S.disk store.old) (S.disk store.new) journal.old journal.new contents.old.state contents.new.state request.now (entries_behind sources.now contents.old.state (record { job = job; timestamp = timestamp; request = request.now; reply = result.0 })) result.1 }
-    ensures answered { HasAnswered sources.now contents.old.state contents.new.state journal.new (record { job = job; timestamp = timestamp; request = request.now; reply = result.0 }) result.1 }
+    requires kept { (s : State) × IsRemembered S.tells (S.disk store.old) journal.old contents.old.state s }
+    ensures { (s : State) → IsRemembered S.tells (S.disk store.old) journal.old contents.old.state s → HasCome S.tells sources.now (S.disk store.old) (S.disk store.new) journal.old journal.new contents.new.state s (record { job = job; timestamp = timestamp; request = request.now; reply = result.0 }) result.1 }
+{
+    match read_for(contents, journal, store, request) {
+        Ok(stretch) => answer_read(
+            contents, journal, store, job, timestamp, sources, request, &stretch,
+        ),
+        Err(ReadFault::NoMemory) => (Reply::NoMemory, false),
+        Err(ReadFault::StoreFault) => (Reply::StoreFault, true),
+    }
+}
+
+/// The same, where this stretch of the journal was read for it.
+#[allow(clippy::too_many_arguments)]
+fn answer_read<S: Store>(
+    contents: &mut Contents,
+    journal: &mut KeptJournal,
+    store: &mut S,
+    job: u32,
+    timestamp: u64,
+    sources: &Sources,
+    request: &Request,
+    stretch: &Stretch,
+) -> (Reply, bool)
+    requires running { IsTrue (is_running (job_at job contents.old.state.jobs)) }
+    requires built { IsTrue (is_built request.now) }
+    requires short { AreShort sources.now }
+    requires other { switches request.now ≡ false }
+    requires kept { (s : State) × IsRemembered S.tells (S.disk store.old) journal.old contents.old.state s × (read : List Entry) × IsReadOf S.tells s stretch.now read }
+    ensures { (s : State) → IsRemembered S.tells (S.disk store.old) journal.old contents.old.state s → (read : List Entry) → IsReadOf S.tells s stretch.now read → HasCome S.tells sources.now (S.disk store.old) (S.disk store.new) journal.old journal.new contents.new.state s (record { job = job; timestamp = timestamp; request = request.now; reply = result.0 }) result.1 }
 {
     // A sound library stays sound, and each change of an open commit cycle stands in it as it was made.
     each_call_leaves_a_sound_library();
@@ -89,9 +117,9 @@ fn answer_other<S: Store>(
     if !make_room(journal, contents.jobs_begun(), request) {
         return (Reply::NoMemory, false);
     }
-    let before = kept_count(contents);
-    let done = perform(contents, job, timestamp, sources, request);
-    let put = put_done(contents, journal, store, before, request, &done);
+    let done = perform(contents, job, timestamp, sources, request, stretch);
+    let put = put_done(contents, journal, store, request, &done);
+    contents.forget();
     given(put, done)
 }
 
@@ -122,55 +150,43 @@ pub(crate) fn reserve_for(journal: &mut KeptJournal, jobs: usize) -> Result<(), 
     journal.reserve(2 * jobs as u32 + 1)
 }
 
-/// How many entries are kept.
-fn kept_count(contents: &Contents) -> usize
-    ensures { result ≡ length contents.now.state.entries }
-{
-    contents.all_entries().len()
-}
-
-/// Puts the entries behind so many, where the request was done.
+/// Puts the entries that are in memory, where the request was done.
 fn put_done<S: Store>(
     contents: &Contents,
     journal: &mut KeptJournal,
     store: &mut S,
-    before: usize,
     request: &Request,
     done: &Result<Reply, Stop>,
 ) -> Result<(), StoreFault>
-    requires before { IsOk done.now → before ≤ length contents.now.state.entries }
     requires held { S.tells → IsHeld journal.old (S.disk store.old) }
     requires little { length journal.old.buffered < MUCH }
-    requires may { IsOk done.now → MayWait journal.old (drop before contents.now.state.entries) }
-    requires place { IsOk done.now → places_taken request.now (drop before contents.now.state.entries) ≤ journal.old.chain.room }
-    ensures taken { IsOk done.now → HasTaken S.tells (S.disk store.old) (S.disk store.new) journal.old journal.new request.now (drop before contents.now.state.entries) result }
+    requires may { IsOk done.now → MayWait journal.old (in_memory contents.now.state.entries) }
+    requires place { IsOk done.now → places_taken request.now (in_memory contents.now.state.entries) ≤ journal.old.chain.room }
+    ensures taken { IsOk done.now → HasTaken S.tells (S.disk store.old) (S.disk store.new) journal.old journal.new request.now (in_memory contents.now.state.entries) result }
     ensures nothing { IsErr done.now → IsOk result }
     ensures same_journal { IsErr done.now → journal.new ≡ journal.old }
     ensures same_store { IsErr done.now → store.new ≡ store.old }
 {
     match done {
-        Ok(_) => put_behind(contents, journal, store, before, request),
+        Ok(_) => put_new(contents, journal, store, request),
         Err(_) => Ok(()),
     }
 }
 
-/// Puts the entries behind so many.
-fn put_behind<S: Store>(
+/// Puts the entries that are in memory.
+fn put_new<S: Store>(
     contents: &Contents,
     journal: &mut KeptJournal,
     store: &mut S,
-    before: usize,
     request: &Request,
 ) -> Result<(), StoreFault>
-    requires before { before ≤ length contents.now.state.entries }
     requires held { S.tells → IsHeld journal.old (S.disk store.old) }
     requires little { length journal.old.buffered < MUCH }
-    requires may { MayWait journal.old (drop before contents.now.state.entries) }
-    requires place { places_taken request.now (drop before contents.now.state.entries) ≤ journal.old.chain.room }
-    ensures { HasTaken S.tells (S.disk store.old) (S.disk store.new) journal.old journal.new request.now (drop before contents.now.state.entries) result }
+    requires may { MayWait journal.old (in_memory contents.now.state.entries) }
+    requires place { places_taken request.now (in_memory contents.now.state.entries) ≤ journal.old.chain.room }
+    ensures { HasTaken S.tells (S.disk store.old) (S.disk store.new) journal.old journal.new request.now (in_memory contents.now.state.entries) result }
 {
-    let all = contents.all_entries();
-    put_entries(journal, store, &all[before..], request)
+    put_entries(journal, store, contents.in_memory(), request)
 }
 
 /// Puts the entries of a call that was done, if there are some or the call is forced.
@@ -240,10 +256,8 @@ fn attach_receiver<S: Store>(
     timestamp: u64,
 ) -> (Reply, bool)
     requires running { IsTrue (is_running (job_at job contents.old.state.jobs)) }
-    requires sound { IsSound contents.old.state }
-    requires journaled { IsJournaled S.tells (S.disk store.old) journal.old contents.old.state }
-    ensures put { (sources : List NamedSource) → HasPut S.tells (S.disk store.old) (S.disk store.new) journal.old journal.new contents.old.state contents.new.state ChangeJournal (entries_behind sources contents.old.state (record { job = job; timestamp = timestamp; request = ChangeJournal; reply = result.0 })) result.1 }
-    ensures answered { (sources : List NamedSource) → HasAnswered sources contents.old.state contents.new.state journal.new (record { job = job; timestamp = timestamp; request = ChangeJournal; reply = result.0 }) result.1 }
+    requires kept { (s : State) × IsRemembered S.tells (S.disk store.old) journal.old contents.old.state s }
+    ensures { (sources : List NamedSource) → (s : State) → IsRemembered S.tells (S.disk store.old) journal.old contents.old.state s → HasCome S.tells sources (S.disk store.old) (S.disk store.new) journal.old journal.new contents.new.state s (record { job = job; timestamp = timestamp; request = ChangeJournal; reply = result.0 }) result.1 }
 {
     match ready_to_attach(contents, journal) {
         Ok(number) => switch_receivers(contents, journal, store, job, timestamp, number),
@@ -261,25 +275,37 @@ fn switch_receivers<S: Store>(
     number: u32,
 ) -> (Reply, bool)
     requires running { IsTrue (is_running (job_at job contents.old.state.jobs)) }
-    requires sound { IsSound contents.old.state }
-    requires journaled { IsJournaled S.tells (S.disk store.old) journal.old contents.old.state }
+    requires kept { (s : State) × IsRemembered S.tells (S.disk store.old) journal.old contents.old.state s }
     requires plan { attach_plan (memory_of contents.old.state) ≡ Ok number }
     requires next { number ≡ contents.old.state.receivers.attached + 1 }
     requires few { number ≤ LAST_RECEIVER }
     requires left { (memory_of contents.old.state).last_entry ≤ LAST_SEQUENCE }
     requires room { 2 ≤ contents.old.room.entries }
     requires places { 2 * length contents.old.state.jobs + 1 ≤ journal.old.chain.room }
-    ensures put { (sources : List NamedSource) → HasPut S.tells (S.disk store.old) (S.disk store.new) journal.old journal.new contents.old.state contents.new.state ChangeJournal (entries_behind sources contents.old.state (record { job = job; timestamp = timestamp; request = ChangeJournal; reply = result.0 })) result.1 }
-    ensures answered { (sources : List NamedSource) → HasAnswered sources contents.old.state contents.new.state journal.new (record { job = job; timestamp = timestamp; request = ChangeJournal; reply = result.0 }) result.1 }
+    ensures { (sources : List NamedSource) → (s : State) → IsRemembered S.tells (S.disk store.old) journal.old contents.old.state s → HasCome S.tells sources (S.disk store.old) (S.disk store.new) journal.old journal.new contents.new.state s (record { job = job; timestamp = timestamp; request = ChangeJournal; reply = result.0 }) result.1 }
 {
     each_call_leaves_a_sound_library();
     journal_lasts();
     let (ending, beginning) = attach_drafts(contents, job, timestamp, number);
     match journal.switch(contents.alloc(), store, ending, beginning) {
-        Ok(_) => (apply_attach(contents, job, timestamp, number), false),
+        Ok(_) => (attach_in_memory(contents, job, timestamp, number), false),
         Err(ChainFault::NoMemory) => (Reply::NoMemory, false),
         Err(ChainFault::StoreFault) => (Reply::StoreFault, true),
     }
+}
+
+/// Attaches the receiver in memory, where its two entries are forgotten: they stand on the disk.
+fn attach_in_memory(contents: &mut Contents, job: u32, timestamp: u64, number: u32) -> Reply
+    requires running { IsTrue (is_running (job_at job contents.old.state.jobs)) }
+    requires next { number ≡ contents.old.state.receivers.attached + 1 }
+    requires few { number ≤ LAST_RECEIVER }
+    requires left { (memory_of contents.old.state).last_entry ≤ LAST_SEQUENCE }
+    requires room { 2 ≤ contents.old.room.entries }
+    ensures { (t : State) × Answers contents.old.state t (Ok result) (Ok (attach_change (memory_of contents.old.state) job timestamp number)) × (contents.new.state ≡ remembered t) }
+{
+    let reply = apply_attach(contents, job, timestamp, number);
+    contents.forget();
+    reply
 }
 
 /// What CHGJRN is refused by, or the number of the receiver that it attaches. Room is made for its entries and for the block that waits.

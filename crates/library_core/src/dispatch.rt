@@ -1,5 +1,8 @@
 //! What a request asks for: each of them of the crate that does it, but for CHGJRN, which `answering.rt` does step by step.
-ghost use Rattle.std.specs.Prelude.{◌≡◌, false, IsTrue, IsErrOf};
+ghost use Rattle.std.specs.Prelude.{◌≡◌, ◌+◌, false, IsTrue, IsErrOf, List, length};
+ghost use Rattle.entry_codec.specs.declared.entries.Entry.{Entry};
+ghost use Rattle.journal_model.specs.Journal.{AreNumbered};
+ghost use Rattle.journal_reads.specs.Stretches.{IsStretchOf};
 ghost use Rattle.built_requests.specs.Built.{is_built};
 ghost use Rattle.deposited_entries.specs.Deposits.{switches};
 ghost use Rattle.library_model.specs.NeedsMemory.{needs_memory};
@@ -17,6 +20,7 @@ use file_requests::{
     add_member, clear_member, close_file, create_logical_file, create_physical_file, delete_file,
     end_journaling, open_file, reorganize_member, start_journaling,
 };
+use journal_reads::Stretch;
 use journal_requests::{delete_receiver, display_journal};
 use library_model::replies::Reply;
 use library_model::requests::Request;
@@ -28,7 +32,7 @@ use record_reads::{
     chain, read, read_equal, read_prior, read_prior_equal, set_greater_than, set_lower_limit,
 };
 
-/// Answers one request of a job, at a time.
+/// Answers one request of a job, at a time, with a stretch of the journal that was read for it.
 #[tactic(auto, unfolding(library_steps::specs::Step::change))]
 pub(crate) fn perform(
     contents: &mut Contents,
@@ -36,13 +40,16 @@ pub(crate) fn perform(
     timestamp: u64,
     sources: &Sources,
     request: &Request,
+    stretch: &Stretch,
 ) -> Result<Reply, Stop>
     requires running { IsTrue (is_running (job_at job contents.old.state.jobs)) }
     requires built { IsTrue (is_built request.now) }
     requires other { switches request.now ≡ false }
     requires defaults { HaveDefaults contents.old.state.files }
     requires stand { StandAsMade (changes_in (job_of job (memory_of contents.old.state)).cycle) contents.old.state.members }
-    ensures step { Answers contents.old.state contents.new.state result (change sources.now contents.old.state.entries (memory_of contents.old.state) job timestamp request.now) }
+    requires numbered { AreNumbered (contents.old.state.gone + 1) contents.old.state.entries }
+    requires unsaved { contents.old.state.checkpoint ≡ 0 }
+    ensures step { (read : List Entry) → length read ≡ length contents.old.state.entries → AreNumbered (contents.old.state.gone + 1) read → IsStretchOf (contents.old.state.gone + 1) read stretch.now → Answers contents.old.state contents.new.state result (change sources.now read (memory_of contents.old.state) job timestamp request.now) }
     ensures memory { IsErrOf result NoMemory → IsTrue (needs_memory request.now) }
 {
     match request {
@@ -60,9 +67,9 @@ pub(crate) fn perform(
         Request::EndJournaling(args) => end_journaling(contents, job, timestamp, args),
         Request::ChangeJournal => unreachable!(),
         Request::DeleteReceiver(args) => delete_receiver(contents, job, args),
-        Request::DisplayJournal(args) => display_journal(contents, job, args),
-        Request::ApplyChanges(args) => apply_changes(contents, job, timestamp, args),
-        Request::RemoveChanges(args) => remove_changes(contents, job, timestamp, args),
+        Request::DisplayJournal(args) => display_journal(contents, job, args, stretch),
+        Request::ApplyChanges(args) => apply_changes(contents, job, timestamp, args, stretch),
+        Request::RemoveChanges(args) => remove_changes(contents, job, timestamp, args, stretch),
         Request::StartCommitment(args) => start_commitment(contents, job, timestamp, args),
         Request::EndCommitment => end_commitment(contents, job, timestamp),
         Request::Commit => commit(contents, job, timestamp),

@@ -2,6 +2,7 @@
 ghost use Rattle.std.specs.Prelude.{◌≡◌};
 ghost use Rattle.library_model.specs.NeedsMemory.{needs_memory};
 ghost use Rattle.deposited_entries.specs.Deposits.{switches};
+ghost use Rattle.library_core.specs.Reads.{reads_journal};
 
 use library_model::requests::Request;
 
@@ -64,6 +65,44 @@ pub(crate) fn switches(request: &Request) -> bool
         | Request::DisplayJournal(_)
         | Request::ApplyChanges(_)
         | Request::RemoveChanges(_)
+        | Request::StartCommitment(_)
+        | Request::EndCommitment
+        | Request::Commit
+        | Request::Rollback
+        | Request::OpenFile(_)
+        | Request::CloseFile(_)
+        | Request::SetLowerLimit(_)
+        | Request::SetGreaterThan(_)
+        | Request::Read(_)
+        | Request::ReadPrior(_)
+        | Request::ReadEqual(_)
+        | Request::ReadPriorEqual(_)
+        | Request::Chain(_)
+        | Request::Write(_)
+        | Request::Update(_)
+        | Request::Delete(_)
+        | Request::Unlock(_)
+        | Request::EndJob(_) => false,
+    }
+}
+
+/// Whether it reads the journal.
+pub(crate) fn reads_journal(request: &Request) -> bool
+    ensures { result ≡ reads_journal request.now }
+{
+    match request {
+        Request::DisplayJournal(_) | Request::ApplyChanges(_) | Request::RemoveChanges(_) => true,
+        Request::CreatePhysicalFile(_)
+        | Request::CreateLogicalFile(_)
+        | Request::DeleteFile(_)
+        | Request::AddMember(_)
+        | Request::ClearMember(_)
+        | Request::ReorganizeMember(_)
+        | Request::StartJournaling(_)
+        | Request::EndJournaling(_)
+        | Request::ChangeJournal
+        | Request::DeleteReceiver(_)
+        | Request::Checkpoint
         | Request::StartCommitment(_)
         | Request::EndCommitment
         | Request::Commit

@@ -6,6 +6,7 @@ mod dispatch;
 mod kinds;
 mod laws;
 pub mod library;
+mod reading;
 
 pub use library_model::calls::Call;
 pub use library_model::replies::Reply;

@@ -2,18 +2,17 @@
 //! the disk stands in `answering.rt`.
 ghost use Rattle.std.specs.Prelude.{◌≡◌, ◌≢◌, ◌⊎◌, ℕ, true, false, ◌+◌, ◌*◌, ◌<◌, ◌≤◌, ◌∷◌, [], ◌++◌, length, take, IsTrue, IfOk, OnOk, OnErr};
 ghost use Rattle.store_model.specs.Disk.{Areas, May, Leaves};
-ghost use Rattle.store_model.specs.Faults.{Rose};
 ghost use Rattle.receiver_chain.specs.Others.{LeavesRoots};
 ghost use Rattle.journal_book.specs.Book.{HasMoreRoom};
 ghost use Rattle.journal_book.specs.Kept.{IsForcedOrFrom, SpellEntries};
 ghost use Rattle.built_requests.specs.Built.{is_built};
 ghost use Rattle.deposited_entries.specs.Deposits.{AreShort};
-ghost use Rattle.joint_state.specs.Sound.{IsSound};
-ghost use Rattle.library_steps.specs.State.{State, job_at, new_job};
+ghost use Rattle.library_steps.specs.State.{State, begun, job_at, new_job};
 ghost use Rattle.library_steps.specs.History.{is_running};
 ghost use Rattle.library_parts.specs.Indexed.{ArePaths};
 ghost use Rattle.journal_fronts.specs.Fronts.{IsAcknowledged, entries_behind};
-ghost use Rattle.kept_library.specs.Journaled.{IsJournaled};
+ghost use Rattle.kept_library.specs.Journaled.{IsRemembered};
+ghost use Rattle.library_core.specs.Puts.{IsAtFault};
 ghost use Rattle.library_core.specs.Running.{runs_after};
 ghost use Rattle.kept_library.specs.Stands.{Stands, IsReady, Goes, whole_from};
 
@@ -30,8 +29,8 @@ use std::alloc::AllocError;
 use std::marker::Model;
 use store_model::Store;
 
-/// A library whose journal stands on a disk. Contracts see the store, the journal's book, the library's state, the access paths that it
-/// keeps, and whether a call has found the store at fault.
+/// A library whose journal stands on a disk. Contracts see the store, the journal's book, what is in memory of the library's state, the access paths that
+/// it keeps, and whether a call has found the store at fault.
 pub struct Library<S: Store> {
     store: S,
     journal: KeptJournal,
@@ -41,14 +40,15 @@ pub struct Library<S: Store> {
 
 impl<S: Store> Model for Library<S> {
     ghost use Rattle.std.specs.Prelude.{◌≡◌, false};
-    ghost use Rattle.kept_library.specs.Journaled.{IsJournaled};
+    ghost use Rattle.library_steps.specs.State.{State};
+    ghost use Rattle.kept_library.specs.Journaled.{IsRemembered};
     ghost use Rattle.kept_library.specs.Parts.{LibraryOver};
 
     ghost Value = { LibraryOver S };
 
     ghost view = { λ l. record { store = l.store; book = l.journal; state = l.contents.state; paths = l.contents.room.paths.paths; failed = l.failed } };
 
-    ghost invariant = { λ l. l.failed ≡ false → IsJournaled S.tells (S.disk l.store) l.journal l.contents.state };
+    ghost invariant = { λ l. l.failed ≡ false → (s : State) × IsRemembered S.tells (S.disk l.store) l.journal l.contents.state s };
 }
 
 impl<S: Store> Library<S> {
@@ -68,8 +68,8 @@ impl<S: Store> Library<S> {
     /// Whether a call has found the store at fault; nothing but opening the library again is left then.
     pub fn failed(&self) -> bool
         ensures failed { result ≡ self.now.failed }
-        ensures journaled { result ≡ false → IsJournaled S.tells (S.disk self.now.store) self.now.book self.now.state }
-        ensures left { result ≡ false → S.tells → (areas : Areas) → May (S.disk self.now.store) areas → SpellEntries self.now.book.chain.first (take self.now.book.forced self.now.state.entries) areas }
+        ensures kept { result ≡ false → (s : State) × IsRemembered S.tells (S.disk self.now.store) self.now.book self.now.state s }
+        ensures left { (s : State) → Stands S.tells S.disk self.now s → S.tells → (areas : Areas) → May (S.disk self.now.store) areas → SpellEntries self.now.book.chain.first (take self.now.book.forced s.entries) areas }
         ensures all { result ≡ false → self.now.book.forced + self.now.book.waiting ≡ length self.now.state.entries }
     {
         self.failed
@@ -95,6 +95,8 @@ impl<S: Store> Library<S> {
         ensures number { IfOk result (λ n. n ≡ length self.old.state.jobs + 1) }
         ensures begun { OnOk result (self.new.state ≡ record self.old.state { jobs = self.old.state.jobs ++ new_job name.now ∷ [] }) }
         ensures unchanged { OnErr result (self.new.state ≡ self.old.state) }
+        ensures stands { (s : State) → Stands S.tells S.disk self.old s → OnOk result (Stands S.tells S.disk self.new (begun s (name.now ∷ []))) }
+        ensures stays { (s : State) → Stands S.tells S.disk self.old s → OnErr result (Stands S.tells S.disk self.new s) }
         ensures store { self.new.store ≡ self.old.store }
         ensures failed { self.new.failed ≡ self.old.failed }
         ensures forced { self.new.book.forced ≡ self.old.book.forced }
@@ -144,20 +146,19 @@ pub fn call<S: Store>(
     requires ready { IsReady job library.old }
     requires built { IsTrue (is_built request.now) }
     requires short { AreShort sources.now }
-    ensures goes { (s : State) → Stands library.old s → Goes sources.now library.new s (record { job = job; timestamp = timestamp; request = request.now; reply = result }) }
+    ensures goes { (s : State) → Stands S.tells S.disk library.old s → Goes S.tells S.disk sources.now library.new s (record { job = job; timestamp = timestamp; request = request.now; reply = result }) }
     ensures running { (other : ℕ) → is_running (job_at other library.new.state.jobs) ≡ runs_after job request.now library.old.state.jobs other }
-    ensures kept { IsSound library.new.state }
     ensures paths { ArePaths library.new.state.files library.new.state.members library.new.paths }
     // A store fault alone ends it.
     ensures alive { result ≢ Reply.StoreFault → library.new.failed ≡ false }
     ensures fault { result ≡ Reply.StoreFault → library.new.failed ≡ true }
-    ensures cause { library.new.failed ≡ true → Rose (S.disk library.old.store).faults (S.disk library.new.store).faults }
+    ensures cause { library.new.failed ≡ true → IsAtFault S.tells (S.disk library.old.store) (S.disk library.new.store) request.now }
     ensures faults { (S.disk library.old.store).faults ≤ (S.disk library.new.store).faults }
     // What a stop leaves within the call, and behind it.
-    ensures moments { S.tells → Leaves (S.disk library.old.store) (S.disk library.new.store) (IsForcedOrFrom library.old.book.chain.first library.old.book.forced (whole_from request.now library.old.state.entries (entries_behind sources.now library.old.state (record { job = job; timestamp = timestamp; request = request.now; reply = result }))) (entries_behind sources.now library.old.state (record { job = job; timestamp = timestamp; request = request.now; reply = result }))) }
-    ensures still { library.new.failed ≡ false → library.new.state.entries ≡ library.old.state.entries → S.tells → Leaves (S.disk library.old.store) (S.disk library.new.store) (IsForcedOrFrom library.old.book.chain.first library.old.book.forced (length library.old.state.entries) library.old.state.entries) }
-    ensures left { library.new.failed ≡ false → S.tells → (areas : Areas) → May (S.disk library.new.store) areas → SpellEntries library.new.book.chain.first (take library.new.book.forced library.new.state.entries) areas }
-    ensures acknowledged { IsAcknowledged sources.now library.old.state (record { job = job; timestamp = timestamp; request = request.now; reply = result }) → library.new.book.waiting ≡ 0 }
+    ensures moments { (s : State) → Stands S.tells S.disk library.old s → S.tells → Leaves (S.disk library.old.store) (S.disk library.new.store) (IsForcedOrFrom library.old.book.chain.first library.old.book.forced (whole_from request.now s.entries (entries_behind sources.now s (record { job = job; timestamp = timestamp; request = request.now; reply = result }))) (entries_behind sources.now s (record { job = job; timestamp = timestamp; request = request.now; reply = result }))) }
+    ensures still { (s : State) → Stands S.tells S.disk library.old s → (t : State) → Stands S.tells S.disk library.new t → t.entries ≡ s.entries → S.tells → Leaves (S.disk library.old.store) (S.disk library.new.store) (IsForcedOrFrom library.old.book.chain.first library.old.book.forced (length s.entries) s.entries) }
+    ensures left { (t : State) → Stands S.tells S.disk library.new t → S.tells → (areas : Areas) → May (S.disk library.new.store) areas → SpellEntries library.new.book.chain.first (take library.new.book.forced t.entries) areas }
+    ensures acknowledged { (s : State) → Stands S.tells S.disk library.old s → S.tells → IsAcknowledged sources.now s (record { job = job; timestamp = timestamp; request = request.now; reply = result }) → library.new.book.waiting ≡ 0 }
     ensures least { library.new.failed ≡ false → library.old.book.forced ≤ library.new.book.forced }
     ensures whole { library.new.failed ≡ false → (library.new.book.forced ≡ library.old.book.forced) ⊎ (library.new.book.forced ≡ length library.new.state.entries) }
     ensures all { library.new.failed ≡ false → library.new.book.forced + library.new.book.waiting ≡ length library.new.state.entries }

@@ -1,8 +1,9 @@
+use Rattle.std.proofs.Common.{refl}
 use Rattle.kept_library.proofs.JournaledLemmas.{counted, journal-left}
 use Rattle.kept_library.proofs.KeptLibrary.over.Goals as goal
 
 pub returns-clause-stands : goal.returns-clause-stands
-returns-clause-stands g c = λ s is. record { alive = c.alive; remembered = is }
+returns-clause-stands g c = λ s is. record { alive = refl; remembered = is }
 
 pub returns-clause-left : goal.returns-clause-left
 returns-clause-left g c = λ s is. journal-left g.S.Store.tells (g.S.Store.disk c.args.store) c.args.journal s is.journaled

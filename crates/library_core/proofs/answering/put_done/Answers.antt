@@ -1,17 +1,14 @@
 use Rattle.library_core.proofs.PutLemmas.{is-done, is-failed, not-both}
 use Rattle.library_core.proofs.answering.put_done.Goals as goal
 
-pub put_behind-requires-clause-before : goal.put_behind-requires-clause-before
-put_behind-requires-clause-before g c = c.requires.before (is-done c.args.done.now _ c.in-Ok.is)
+pub put_new-requires-clause-may : goal.put_new-requires-clause-may
+put_new-requires-clause-may g c = c.requires.may (is-done c.args.done.now _ c.in-Ok.is)
 
-pub put_behind-requires-clause-may : goal.put_behind-requires-clause-may
-put_behind-requires-clause-may g c = c.requires.may (is-done c.args.done.now _ c.in-Ok.is)
-
-pub put_behind-requires-clause-place : goal.put_behind-requires-clause-place
-put_behind-requires-clause-place g c = c.requires.place (is-done c.args.done.now _ c.in-Ok.is)
+pub put_new-requires-clause-place : goal.put_new-requires-clause-place
+put_new-requires-clause-place g c = c.requires.place (is-done c.args.done.now _ c.in-Ok.is)
 
 pub returns-in-Ok-clause-taken : goal.returns-in-Ok-clause-taken
-returns-in-Ok-clause-taken g c = λ fine. c.put_behind.ensures
+returns-in-Ok-clause-taken g c = λ fine. c.put_new.ensures
 
 pub returns-in-Ok-clause-nothing : goal.returns-in-Ok-clause-nothing
 returns-in-Ok-clause-nothing g c = λ bad. not-both c.args.done.now (is-done c.args.done.now _ c.in-Ok.is) bad

@@ -2,6 +2,7 @@ use Rattle.std.proofs.Common.{◌≤◌, ℕ, ◌^◌, [], ◌∷◌, length, le
 use Rattle.journal_model.specs.Journal.{AreNumbered}
 use Rattle.library_steps.specs.State.{memory_of, new_job}
 use Rattle.library_core.proofs.PlaceLemmas.{due-new, places-last}
+use Rattle.library_core.proofs.SameLemmas.{free-same}
 use Rattle.library_core.proofs.laws.journal_lasts.Goals as goal
 
 pub returns-clause-wait : goal.returns-clause-wait
@@ -31,7 +32,7 @@ returns-clause-begin c = λ s name few may. record {
 
 pub returns-clause-stay : goal.returns-clause-stay
 returns-clause-stay c = λ s done d short saved may.
-    let jobs = c.places_suffice.ensures.jobs d.sources s.entries (memory_of s) d.job d.timestamp d.request done d.does in
+    let jobs = c.places_suffice.ensures.jobs d.sources d.read (memory_of s) d.job d.timestamp d.request done d.does in
     record {
       counted = c.numbers_stay_counted.ensures.kept s done d may.counted;
       groups = c.groups_stay_within.ensures.kept s done d may.groups;
@@ -42,8 +43,9 @@ returns-clause-stay c = λ s done d short saved may.
 
 pub returns-clause-places : goal.returns-clause-places
 returns-clause-places c = λ s done d room due made.
-    places-last s done d room (c.places_suffice.ensures.most done.memory.jobs) (c.places_suffice.ensures.jobs d.sources s.entries (memory_of s) d.job d.timestamp d.request done d.does) due made
-    (λ free. c.places_suffice.ensures.spent d.sources s d.job d.timestamp d.request done d.running free d.does)
+    places-last s done d room (c.places_suffice.ensures.most done.memory.jobs) (c.places_suffice.ensures.jobs d.sources d.read (memory_of s) d.job d.timestamp d.request done d.does) due made
+    (λ free. c.places_suffice.ensures.spent d.sources s d.job d.timestamp d.request done d.running free
+    (free-same d.sources s.entries d.read (memory_of s) d.job d.timestamp d.request free ∙ d.does))
 
 pub returns-clause-begin_places : goal.returns-clause-begin_places
 returns-clause-begin_places c = λ s name room made.

@@ -2,20 +2,29 @@ use Rattle.std.proofs.Common.{◌≡◌, ◌∙◌, false, ap, sym, subst}
 use Rattle.library_model.specs.declared.calls.Call.{Call}
 use Rattle.kept_library.specs.Parts.{LibraryOver}
 use Rattle.kept_library.specs.Stands.{IsReady}
-use Rattle.library_core.proofs.LibraryLemmas.{call-alive, call-all, call-fault, call-goes, call-left, called-of}
+use Rattle.library_core.proofs.LibraryLemmas.{call-acknowledged, call-alive, call-all, call-cause, call-fault, call-faults, call-goes, call-kept, call-least, call-left, call-moments, call-receiver}
+use Rattle.library_core.proofs.LibraryLemmas.{call-roots, call-running, call-still, call-whole, called-of}
 use Rattle.library_core.proofs.library.call.Goals as goal
 
 pub answer-reply-requires-clause-running : goal.answer-reply-requires-clause-running
 answer-reply-requires-clause-running g c = (subst (IsReady c.args.job) (sym c.library.view_is) c.requires.ready).running
 
-pub answer-reply-requires-clause-sound : goal.answer-reply-requires-clause-sound
-answer-reply-requires-clause-sound g c = (subst (IsReady c.args.job) (sym c.library.view_is) c.requires.ready).sound
-
-pub answer-reply-requires-clause-journaled : goal.answer-reply-requires-clause-journaled
-answer-reply-requires-clause-journaled g c = c.library.invariant (ap (λ (l : LibraryOver g.row.S.Denot). l.failed) c.library.view_is ∙ c.requires.ready.alive)
+pub answer-reply-requires-clause-kept : goal.answer-reply-requires-clause-kept
+answer-reply-requires-clause-kept g c = c.library.invariant (ap (λ (l : LibraryOver g.row.S.Denot). l.failed) c.library.view_is ∙ c.requires.ready.alive)
 
 pub invariant_of-library : goal.invariant_of-library
-invariant_of-library g c = c.answer-reply.ensures.put.journaled
+invariant_of-library g c =
+    let new : LibraryOver g.row.S.Denot = record {
+      store = c.answer-reply.new.store;
+      book = c.answer-reply.new.journal;
+      state = c.answer-reply.new.contents.state;
+      paths = c.answer-reply.new.contents.room.paths.paths;
+      failed = c.answer-reply.result.1;
+    } in
+    let call : Call = record { job = c.args.job; timestamp = c.args.timestamp; request = c.args.request.now; reply = c.answer-reply.result.0 } in
+    let kept = c.library.invariant (ap (λ (l : LibraryOver g.row.S.Denot). l.failed) c.library.view_is ∙ c.requires.ready.alive) in
+    let called = called-of g.S.Store.tells g.S.Store.disk c.args.sources.now _ c.args.library.now new call c.library.view_is kept c.answer-reply.ensures in
+    call-kept g.S.Store.tells g.S.Store.disk c.args.sources.now c.args.library.now new call called
 
 pub returns-clause-goes : goal.returns-clause-goes
 returns-clause-goes g c =
@@ -23,12 +32,12 @@ returns-clause-goes g c =
       store = c.answer-reply.new.store;
       book = c.answer-reply.new.journal;
       state = c.answer-reply.new.contents.state;
-      paths =
-          c.answer-reply.new.contents.room.paths.paths;
+      paths = c.answer-reply.new.contents.room.paths.paths;
       failed = c.answer-reply.result.1;
     } in
     let call : Call = record { job = c.args.job; timestamp = c.args.timestamp; request = c.args.request.now; reply = c.answer-reply.result.0 } in
-    let called = called-of g.S.Store.tells g.S.Store.disk c.args.sources.now _ c.args.library.now new call c.library.view_is c.answer-reply.ensures.put c.answer-reply.ensures.answered in
+    let kept = c.library.invariant (ap (λ (l : LibraryOver g.row.S.Denot). l.failed) c.library.view_is ∙ c.requires.ready.alive) in
+    let called = called-of g.S.Store.tells g.S.Store.disk c.args.sources.now _ c.args.library.now new call c.library.view_is kept c.answer-reply.ensures in
     call-goes g.S.Store.tells g.S.Store.disk c.args.sources.now c.args.library.now new call called
 
 pub returns-clause-running : goal.returns-clause-running
@@ -37,27 +46,13 @@ returns-clause-running g c =
       store = c.answer-reply.new.store;
       book = c.answer-reply.new.journal;
       state = c.answer-reply.new.contents.state;
-      paths =
-          c.answer-reply.new.contents.room.paths.paths;
+      paths = c.answer-reply.new.contents.room.paths.paths;
       failed = c.answer-reply.result.1;
     } in
     let call : Call = record { job = c.args.job; timestamp = c.args.timestamp; request = c.args.request.now; reply = c.answer-reply.result.0 } in
-    let called = called-of g.S.Store.tells g.S.Store.disk c.args.sources.now _ c.args.library.now new call c.library.view_is c.answer-reply.ensures.put c.answer-reply.ensures.answered in
-    called.answered.runs
-
-pub returns-clause-kept : goal.returns-clause-kept
-returns-clause-kept g c =
-    let new : LibraryOver g.row.S.Denot = record {
-      store = c.answer-reply.new.store;
-      book = c.answer-reply.new.journal;
-      state = c.answer-reply.new.contents.state;
-      paths =
-          c.answer-reply.new.contents.room.paths.paths;
-      failed = c.answer-reply.result.1;
-    } in
-    let call : Call = record { job = c.args.job; timestamp = c.args.timestamp; request = c.args.request.now; reply = c.answer-reply.result.0 } in
-    let called = called-of g.S.Store.tells g.S.Store.disk c.args.sources.now _ c.args.library.now new call c.library.view_is c.answer-reply.ensures.put c.answer-reply.ensures.answered in
-    called.answered.sound
+    let kept = c.library.invariant (ap (λ (l : LibraryOver g.row.S.Denot). l.failed) c.library.view_is ∙ c.requires.ready.alive) in
+    let called = called-of g.S.Store.tells g.S.Store.disk c.args.sources.now _ c.args.library.now new call c.library.view_is kept c.answer-reply.ensures in
+    call-running g.S.Store.tells g.S.Store.disk c.args.sources.now c.args.library.now new call called
 
 pub returns-clause-alive : goal.returns-clause-alive
 returns-clause-alive g c =
@@ -65,12 +60,12 @@ returns-clause-alive g c =
       store = c.answer-reply.new.store;
       book = c.answer-reply.new.journal;
       state = c.answer-reply.new.contents.state;
-      paths =
-          c.answer-reply.new.contents.room.paths.paths;
+      paths = c.answer-reply.new.contents.room.paths.paths;
       failed = c.answer-reply.result.1;
     } in
     let call : Call = record { job = c.args.job; timestamp = c.args.timestamp; request = c.args.request.now; reply = c.answer-reply.result.0 } in
-    let called = called-of g.S.Store.tells g.S.Store.disk c.args.sources.now _ c.args.library.now new call c.library.view_is c.answer-reply.ensures.put c.answer-reply.ensures.answered in
+    let kept = c.library.invariant (ap (λ (l : LibraryOver g.row.S.Denot). l.failed) c.library.view_is ∙ c.requires.ready.alive) in
+    let called = called-of g.S.Store.tells g.S.Store.disk c.args.sources.now _ c.args.library.now new call c.library.view_is kept c.answer-reply.ensures in
     call-alive g.S.Store.tells g.S.Store.disk c.args.sources.now c.args.library.now new call called
 
 pub returns-clause-fault : goal.returns-clause-fault
@@ -79,12 +74,12 @@ returns-clause-fault g c =
       store = c.answer-reply.new.store;
       book = c.answer-reply.new.journal;
       state = c.answer-reply.new.contents.state;
-      paths =
-          c.answer-reply.new.contents.room.paths.paths;
+      paths = c.answer-reply.new.contents.room.paths.paths;
       failed = c.answer-reply.result.1;
     } in
     let call : Call = record { job = c.args.job; timestamp = c.args.timestamp; request = c.args.request.now; reply = c.answer-reply.result.0 } in
-    let called = called-of g.S.Store.tells g.S.Store.disk c.args.sources.now _ c.args.library.now new call c.library.view_is c.answer-reply.ensures.put c.answer-reply.ensures.answered in
+    let kept = c.library.invariant (ap (λ (l : LibraryOver g.row.S.Denot). l.failed) c.library.view_is ∙ c.requires.ready.alive) in
+    let called = called-of g.S.Store.tells g.S.Store.disk c.args.sources.now _ c.args.library.now new call c.library.view_is kept c.answer-reply.ensures in
     call-fault g.S.Store.tells g.S.Store.disk c.args.sources.now c.args.library.now new call called
 
 pub returns-clause-cause : goal.returns-clause-cause
@@ -93,13 +88,13 @@ returns-clause-cause g c =
       store = c.answer-reply.new.store;
       book = c.answer-reply.new.journal;
       state = c.answer-reply.new.contents.state;
-      paths =
-          c.answer-reply.new.contents.room.paths.paths;
+      paths = c.answer-reply.new.contents.room.paths.paths;
       failed = c.answer-reply.result.1;
     } in
     let call : Call = record { job = c.args.job; timestamp = c.args.timestamp; request = c.args.request.now; reply = c.answer-reply.result.0 } in
-    let called = called-of g.S.Store.tells g.S.Store.disk c.args.sources.now _ c.args.library.now new call c.library.view_is c.answer-reply.ensures.put c.answer-reply.ensures.answered in
-    called.put.cause
+    let kept = c.library.invariant (ap (λ (l : LibraryOver g.row.S.Denot). l.failed) c.library.view_is ∙ c.requires.ready.alive) in
+    let called = called-of g.S.Store.tells g.S.Store.disk c.args.sources.now _ c.args.library.now new call c.library.view_is kept c.answer-reply.ensures in
+    call-cause g.S.Store.tells g.S.Store.disk c.args.sources.now c.args.library.now new call called
 
 pub returns-clause-faults : goal.returns-clause-faults
 returns-clause-faults g c =
@@ -107,13 +102,13 @@ returns-clause-faults g c =
       store = c.answer-reply.new.store;
       book = c.answer-reply.new.journal;
       state = c.answer-reply.new.contents.state;
-      paths =
-          c.answer-reply.new.contents.room.paths.paths;
+      paths = c.answer-reply.new.contents.room.paths.paths;
       failed = c.answer-reply.result.1;
     } in
     let call : Call = record { job = c.args.job; timestamp = c.args.timestamp; request = c.args.request.now; reply = c.answer-reply.result.0 } in
-    let called = called-of g.S.Store.tells g.S.Store.disk c.args.sources.now _ c.args.library.now new call c.library.view_is c.answer-reply.ensures.put c.answer-reply.ensures.answered in
-    called.put.faults
+    let kept = c.library.invariant (ap (λ (l : LibraryOver g.row.S.Denot). l.failed) c.library.view_is ∙ c.requires.ready.alive) in
+    let called = called-of g.S.Store.tells g.S.Store.disk c.args.sources.now _ c.args.library.now new call c.library.view_is kept c.answer-reply.ensures in
+    call-faults g.S.Store.tells g.S.Store.disk c.args.sources.now c.args.library.now new call called
 
 pub returns-clause-moments : goal.returns-clause-moments
 returns-clause-moments g c =
@@ -121,13 +116,13 @@ returns-clause-moments g c =
       store = c.answer-reply.new.store;
       book = c.answer-reply.new.journal;
       state = c.answer-reply.new.contents.state;
-      paths =
-          c.answer-reply.new.contents.room.paths.paths;
+      paths = c.answer-reply.new.contents.room.paths.paths;
       failed = c.answer-reply.result.1;
     } in
     let call : Call = record { job = c.args.job; timestamp = c.args.timestamp; request = c.args.request.now; reply = c.answer-reply.result.0 } in
-    let called = called-of g.S.Store.tells g.S.Store.disk c.args.sources.now _ c.args.library.now new call c.library.view_is c.answer-reply.ensures.put c.answer-reply.ensures.answered in
-    called.put.moments
+    let kept = c.library.invariant (ap (λ (l : LibraryOver g.row.S.Denot). l.failed) c.library.view_is ∙ c.requires.ready.alive) in
+    let called = called-of g.S.Store.tells g.S.Store.disk c.args.sources.now _ c.args.library.now new call c.library.view_is kept c.answer-reply.ensures in
+    call-moments g.S.Store.tells g.S.Store.disk c.args.sources.now c.args.library.now new call called
 
 pub returns-clause-still : goal.returns-clause-still
 returns-clause-still g c =
@@ -135,13 +130,13 @@ returns-clause-still g c =
       store = c.answer-reply.new.store;
       book = c.answer-reply.new.journal;
       state = c.answer-reply.new.contents.state;
-      paths =
-          c.answer-reply.new.contents.room.paths.paths;
+      paths = c.answer-reply.new.contents.room.paths.paths;
       failed = c.answer-reply.result.1;
     } in
     let call : Call = record { job = c.args.job; timestamp = c.args.timestamp; request = c.args.request.now; reply = c.answer-reply.result.0 } in
-    let called = called-of g.S.Store.tells g.S.Store.disk c.args.sources.now _ c.args.library.now new call c.library.view_is c.answer-reply.ensures.put c.answer-reply.ensures.answered in
-    called.put.still
+    let kept = c.library.invariant (ap (λ (l : LibraryOver g.row.S.Denot). l.failed) c.library.view_is ∙ c.requires.ready.alive) in
+    let called = called-of g.S.Store.tells g.S.Store.disk c.args.sources.now _ c.args.library.now new call c.library.view_is kept c.answer-reply.ensures in
+    call-still g.S.Store.tells g.S.Store.disk c.args.sources.now c.args.library.now new call called
 
 pub returns-clause-left : goal.returns-clause-left
 returns-clause-left g c =
@@ -149,12 +144,12 @@ returns-clause-left g c =
       store = c.answer-reply.new.store;
       book = c.answer-reply.new.journal;
       state = c.answer-reply.new.contents.state;
-      paths =
-          c.answer-reply.new.contents.room.paths.paths;
+      paths = c.answer-reply.new.contents.room.paths.paths;
       failed = c.answer-reply.result.1;
     } in
     let call : Call = record { job = c.args.job; timestamp = c.args.timestamp; request = c.args.request.now; reply = c.answer-reply.result.0 } in
-    let called = called-of g.S.Store.tells g.S.Store.disk c.args.sources.now _ c.args.library.now new call c.library.view_is c.answer-reply.ensures.put c.answer-reply.ensures.answered in
+    let kept = c.library.invariant (ap (λ (l : LibraryOver g.row.S.Denot). l.failed) c.library.view_is ∙ c.requires.ready.alive) in
+    let called = called-of g.S.Store.tells g.S.Store.disk c.args.sources.now _ c.args.library.now new call c.library.view_is kept c.answer-reply.ensures in
     call-left g.S.Store.tells g.S.Store.disk c.args.sources.now c.args.library.now new call called
 
 pub returns-clause-acknowledged : goal.returns-clause-acknowledged
@@ -163,13 +158,13 @@ returns-clause-acknowledged g c =
       store = c.answer-reply.new.store;
       book = c.answer-reply.new.journal;
       state = c.answer-reply.new.contents.state;
-      paths =
-          c.answer-reply.new.contents.room.paths.paths;
+      paths = c.answer-reply.new.contents.room.paths.paths;
       failed = c.answer-reply.result.1;
     } in
     let call : Call = record { job = c.args.job; timestamp = c.args.timestamp; request = c.args.request.now; reply = c.answer-reply.result.0 } in
-    let called = called-of g.S.Store.tells g.S.Store.disk c.args.sources.now _ c.args.library.now new call c.library.view_is c.answer-reply.ensures.put c.answer-reply.ensures.answered in
-    called.answered.acknowledged
+    let kept = c.library.invariant (ap (λ (l : LibraryOver g.row.S.Denot). l.failed) c.library.view_is ∙ c.requires.ready.alive) in
+    let called = called-of g.S.Store.tells g.S.Store.disk c.args.sources.now _ c.args.library.now new call c.library.view_is kept c.answer-reply.ensures in
+    call-acknowledged g.S.Store.tells g.S.Store.disk c.args.sources.now c.args.library.now new call called
 
 pub returns-clause-least : goal.returns-clause-least
 returns-clause-least g c =
@@ -177,13 +172,13 @@ returns-clause-least g c =
       store = c.answer-reply.new.store;
       book = c.answer-reply.new.journal;
       state = c.answer-reply.new.contents.state;
-      paths =
-          c.answer-reply.new.contents.room.paths.paths;
+      paths = c.answer-reply.new.contents.room.paths.paths;
       failed = c.answer-reply.result.1;
     } in
     let call : Call = record { job = c.args.job; timestamp = c.args.timestamp; request = c.args.request.now; reply = c.answer-reply.result.0 } in
-    let called = called-of g.S.Store.tells g.S.Store.disk c.args.sources.now _ c.args.library.now new call c.library.view_is c.answer-reply.ensures.put c.answer-reply.ensures.answered in
-    called.put.least
+    let kept = c.library.invariant (ap (λ (l : LibraryOver g.row.S.Denot). l.failed) c.library.view_is ∙ c.requires.ready.alive) in
+    let called = called-of g.S.Store.tells g.S.Store.disk c.args.sources.now _ c.args.library.now new call c.library.view_is kept c.answer-reply.ensures in
+    call-least g.S.Store.tells g.S.Store.disk c.args.sources.now c.args.library.now new call called
 
 pub returns-clause-whole : goal.returns-clause-whole
 returns-clause-whole g c =
@@ -191,13 +186,13 @@ returns-clause-whole g c =
       store = c.answer-reply.new.store;
       book = c.answer-reply.new.journal;
       state = c.answer-reply.new.contents.state;
-      paths =
-          c.answer-reply.new.contents.room.paths.paths;
+      paths = c.answer-reply.new.contents.room.paths.paths;
       failed = c.answer-reply.result.1;
     } in
     let call : Call = record { job = c.args.job; timestamp = c.args.timestamp; request = c.args.request.now; reply = c.answer-reply.result.0 } in
-    let called = called-of g.S.Store.tells g.S.Store.disk c.args.sources.now _ c.args.library.now new call c.library.view_is c.answer-reply.ensures.put c.answer-reply.ensures.answered in
-    called.put.whole
+    let kept = c.library.invariant (ap (λ (l : LibraryOver g.row.S.Denot). l.failed) c.library.view_is ∙ c.requires.ready.alive) in
+    let called = called-of g.S.Store.tells g.S.Store.disk c.args.sources.now _ c.args.library.now new call c.library.view_is kept c.answer-reply.ensures in
+    call-whole g.S.Store.tells g.S.Store.disk c.args.sources.now c.args.library.now new call called
 
 pub returns-clause-all : goal.returns-clause-all
 returns-clause-all g c =
@@ -205,12 +200,12 @@ returns-clause-all g c =
       store = c.answer-reply.new.store;
       book = c.answer-reply.new.journal;
       state = c.answer-reply.new.contents.state;
-      paths =
-          c.answer-reply.new.contents.room.paths.paths;
+      paths = c.answer-reply.new.contents.room.paths.paths;
       failed = c.answer-reply.result.1;
     } in
     let call : Call = record { job = c.args.job; timestamp = c.args.timestamp; request = c.args.request.now; reply = c.answer-reply.result.0 } in
-    let called = called-of g.S.Store.tells g.S.Store.disk c.args.sources.now _ c.args.library.now new call c.library.view_is c.answer-reply.ensures.put c.answer-reply.ensures.answered in
+    let kept = c.library.invariant (ap (λ (l : LibraryOver g.row.S.Denot). l.failed) c.library.view_is ∙ c.requires.ready.alive) in
+    let called = called-of g.S.Store.tells g.S.Store.disk c.args.sources.now _ c.args.library.now new call c.library.view_is kept c.answer-reply.ensures in
     call-all g.S.Store.tells g.S.Store.disk c.args.sources.now c.args.library.now new call called
 
 pub returns-clause-receiver : goal.returns-clause-receiver
@@ -219,13 +214,13 @@ returns-clause-receiver g c =
       store = c.answer-reply.new.store;
       book = c.answer-reply.new.journal;
       state = c.answer-reply.new.contents.state;
-      paths =
-          c.answer-reply.new.contents.room.paths.paths;
+      paths = c.answer-reply.new.contents.room.paths.paths;
       failed = c.answer-reply.result.1;
     } in
     let call : Call = record { job = c.args.job; timestamp = c.args.timestamp; request = c.args.request.now; reply = c.answer-reply.result.0 } in
-    let called = called-of g.S.Store.tells g.S.Store.disk c.args.sources.now _ c.args.library.now new call c.library.view_is c.answer-reply.ensures.put c.answer-reply.ensures.answered in
-    called.put.receiver
+    let kept = c.library.invariant (ap (λ (l : LibraryOver g.row.S.Denot). l.failed) c.library.view_is ∙ c.requires.ready.alive) in
+    let called = called-of g.S.Store.tells g.S.Store.disk c.args.sources.now _ c.args.library.now new call c.library.view_is kept c.answer-reply.ensures in
+    call-receiver g.S.Store.tells g.S.Store.disk c.args.sources.now c.args.library.now new call called
 
 pub returns-clause-roots : goal.returns-clause-roots
 returns-clause-roots g c =
@@ -233,10 +228,10 @@ returns-clause-roots g c =
       store = c.answer-reply.new.store;
       book = c.answer-reply.new.journal;
       state = c.answer-reply.new.contents.state;
-      paths =
-          c.answer-reply.new.contents.room.paths.paths;
+      paths = c.answer-reply.new.contents.room.paths.paths;
       failed = c.answer-reply.result.1;
     } in
     let call : Call = record { job = c.args.job; timestamp = c.args.timestamp; request = c.args.request.now; reply = c.answer-reply.result.0 } in
-    let called = called-of g.S.Store.tells g.S.Store.disk c.args.sources.now _ c.args.library.now new call c.library.view_is c.answer-reply.ensures.put c.answer-reply.ensures.answered in
-    called.put.roots
+    let kept = c.library.invariant (ap (λ (l : LibraryOver g.row.S.Denot). l.failed) c.library.view_is ∙ c.requires.ready.alive) in
+    let called = called-of g.S.Store.tells g.S.Store.disk c.args.sources.now _ c.args.library.now new call c.library.view_is kept c.answer-reply.ensures in
+    call-roots g.S.Store.tells g.S.Store.disk c.args.sources.now c.args.library.now new call called
