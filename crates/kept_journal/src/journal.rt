@@ -30,7 +30,7 @@ pub const MUCH: usize = 1 << 20;
 /// The journal of a library. It has room for the largest block, so that no entry that may wait wants memory.
 #[derive(Drop)]
 pub struct KeptJournal {
-    book: Book,
+    pub(crate) book: Book,
 }
 
 impl Model for KeptJournal {

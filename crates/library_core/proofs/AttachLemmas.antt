@@ -389,4 +389,3 @@ module _ (tells : Type 0) (old : Disk) (before roomy : BookState) (s : State) (s
                     (done-answered tells old before roomy s s.entries reads sources job timestamp ChangeJournal running refl sound is more (attach-plain sources s.entries s job timestamp) Done done stays later
                     (λ forced. none));
               }
-

@@ -57,7 +57,7 @@ module _ (s : State) (name : List ℕ) where
   lock-begun lock stands = record {
     counted = stands.counted;
     there = stands.there;
-    opened = λ open. holds-more lock.job s.jobs (new_job name ∷ []) (λ (job : JobState). HasOpenOf job lock) (no-open lock) (stands.opened open);
+    opened = λ opens. holds-more lock.job s.jobs (new_job name ∷ []) (λ (job : JobState). HasOpenOf job lock) (no-open lock) (stands.opened opens);
     started = λ kept. holds-more lock.job s.jobs (new_job name ∷ []) (λ (job : JobState). IsSome job.level) no-level (stands.started kept);
   }
 

@@ -24,7 +24,7 @@ ghost use Rattle.library_core.specs.Reads.{IsReadOf};
 use crate::dispatch::perform;
 use crate::kinds;
 use crate::laws::journal_lasts;
-use crate::reading::{ReadFault, read_for};
+use crate::reading::read_for;
 use entry_codec::Entry;
 use forced_calls::is_forced;
 use gated_log::StoreFault;
@@ -87,13 +87,12 @@ fn answer_other<S: Store>(
         Ok(stretch) => answer_read(
             contents, journal, store, job, timestamp, sources, request, &stretch,
         ),
-        Err(ReadFault::NoMemory) => (Reply::NoMemory, false),
-        Err(ReadFault::StoreFault) => (Reply::StoreFault, true),
+        Err(ChainFault::NoMemory) => (Reply::NoMemory, false),
+        Err(ChainFault::StoreFault) => (Reply::StoreFault, true),
     }
 }
 
 /// The same, where this stretch of the journal was read for it.
-#[allow(clippy::too_many_arguments)]
 fn answer_read<S: Store>(
     contents: &mut Contents,
     journal: &mut KeptJournal,

@@ -7,6 +7,7 @@ mod kinds;
 mod laws;
 pub mod library;
 mod reading;
+mod told;
 
 pub use library_model::calls::Call;
 pub use library_model::replies::Reply;

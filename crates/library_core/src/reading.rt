@@ -1,15 +1,19 @@
 //! What a request reads of the journal, before anything is done. `answering.rt` does the request then.
-ghost use Rattle.std.specs.Prelude.{◌≡◌, ◌+◌, ◌≤◌, true, List, [], IsErr, IsErrOf};
+ghost use Rattle.std.specs.Prelude.{◌≡◌, ◌+◌, ◌≤◌, true, List, [], IfOk, IsErr, IsErrOf, ◌⊎◌};
+ghost use Rattle.std.specs.List.{AllByRecursion};
+ghost use Rattle.store_model.specs.Faults.{Rose};
+ghost use Rattle.joint_state.specs.Told.{IsTold};
 ghost use Rattle.entry_codec.specs.declared.entries.Entry.{Entry};
 ghost use Rattle.store_model.specs.Disk.{Stays};
 ghost use Rattle.library_model.specs.NeedsMemory.{needs_memory};
-ghost use Rattle.library_steps.specs.State.{State};
+ghost use Rattle.library_steps.specs.State.{State, memory_of};
 ghost use Rattle.kept_library.specs.Journaled.{IsRemembered};
 ghost use Rattle.library_core.specs.Puts.{IsAtFault};
 ghost use Rattle.journal_reads.specs.Stretches.{entries_from};
 ghost use Rattle.library_core.specs.Reads.{HasRead, reads_journal};
 
 use crate::kinds;
+use crate::told::is_told;
 use entry_codec::Entry;
 use journal_book::BookFault;
 use journal_reads::Stretch;
@@ -78,4 +82,143 @@ fn read_stretch<S: Store>(
         }
         _ => Ok(nothing_read(contents)),
     }
+}
+
+/// The entries of these sequences, which are kept.
+fn read_between<S: Store>(
+    contents: &Contents,
+    journal: &KeptJournal,
+    store: &mut S,
+    from: u64,
+    to: u64,
+) -> Result<Stretch, ChainFault>
+    requires kept { (s : State) × IsRemembered S.tells (S.disk store.old) journal.now contents.now.state s }
+    requires first { contents.now.state.gone + 1 ≤ from }
+    requires order { from ≤ to }
+    requires last { to ≤ (memory_of contents.now.state).last_entry }
+    ensures read { (s : State) → IsRemembered S.tells (S.disk store.old) journal.now contents.now.state s → HasRead S.tells s result }
+    ensures stays { Stays (S.disk store.old) (S.disk store.new) }
+    ensures cause { IsErrOf result ChainFault.StoreFault → Rose (S.disk store.old).faults (S.disk store.new).faults ⊎ (S.tells → ⊥) }
+{
+    match journal.entries(contents.alloc(), store, from, to) {
+        Ok(entries) => judged(contents, from, to, entries),
+        Err(BookFault::NoMemory) => Err(ChainFault::NoMemory),
+        Err(_) => Err(ChainFault::StoreFault),
+    }
+}
+
+/// What was read of these sequences, where it may be so: as many entries, with their numbers, that tell of records of their files. What a store that tells
+/// of its bytes gives always is.
+fn judged(
+    contents: &Contents,
+    from: u64,
+    to: u64,
+    entries: Vec<Entry>,
+) -> Result<Stretch, ChainFault>
+    requires order { from ≤ to }
+{
+    if (entries.len() as u64) < 1 || entries.len() as u64 - 1 != to - from {
+        return Err(ChainFault::StoreFault);
+    }
+    if !are_told(contents, entries.as_slice()) {
+        return Err(ChainFault::StoreFault);
+    }
+    match Stretch::new(from, entries) {
+        Some(stretch) => Ok(stretch),
+        None => Err(ChainFault::StoreFault),
+    }
+}
+
+/// Whether each entry that names a member which a file has tells of records of that file, at places that they may have.
+fn are_told(contents: &Contents, entries: &[Entry]) -> bool
+    ensures { result ≡ true → AllByRecursion (IsTold contents.now.state.files) entries.now }
+{
+    let mut rest = entries;
+    while let [entry, more @ ..] = rest {
+        if !is_told(contents, entry) {
+            return false;
+        }
+        rest = more;
+    }
+    true
+}
+
+/// What APYJRNCHG or RMVJRNCHG reads: its range with the entry before it, or from a last break of the member on, which is looked for from the journal's end.
+fn read_range<S: Store>(
+    contents: &Contents,
+    journal: &KeptJournal,
+    store: &mut S,
+    wanted: RangeWanted,
+) -> Result<Stretch, ChainFault>
+    requires kept { (s : State) × IsRemembered S.tells (S.disk store.old) journal.now contents.now.state s }
+    ensures read { (s : State) → IsRemembered S.tells (S.disk store.old) journal.now contents.now.state s → HasRead S.tells s result }
+    ensures stays { Stays (S.disk store.old) (S.disk store.new) }
+    ensures cause { IsErrOf result ChainFault.StoreFault → Rose (S.disk store.old).faults (S.disk store.new).faults ⊎ (S.tells → ⊥) }
+{
+    let (kept, last) = contents.bounds();
+    if last < kept {
+        return Ok(nothing_read(contents));
+    }
+    match (wanted.from, wanted.to) {
+        (Some(from), Some(to)) => {
+            if from < kept || to < from || last < to {
+                return Ok(nothing_read(contents));
+            }
+            let begin = if from == kept { kept } else { from - 1 };
+            read_between(contents, journal, store, begin, to)
+        }
+        _ => {
+            let begin = break_before(contents, journal, store, wanted.member, kept, last)?;
+            let begin = match wanted.from {
+                Some(from) if kept < from && from - 1 < begin => from - 1,
+                _ => begin,
+            };
+            read_between(contents, journal, store, begin, last)
+        }
+    }
+}
+
+/// The sequence before which no break of the member has to be looked for: that of the first of a piece that has one, or the first that is kept.
+fn break_before<S: Store>(
+    contents: &Contents,
+    journal: &KeptJournal,
+    store: &mut S,
+    member: u32,
+    kept: u64,
+    last: u64,
+) -> Result<u64, ChainFault>
+    requires remembered { (s : State) × IsRemembered S.tells (S.disk store.old) journal.now contents.now.state s }
+    requires first { contents.now.state.gone + 1 ≤ kept }
+    requires order { kept ≤ last }
+    requires end { last ≤ (memory_of contents.now.state).last_entry }
+    ensures first { IfOk result (λ begin. kept ≤ begin × begin ≤ last) }
+    ensures stays { Stays (S.disk store.old) (S.disk store.new) }
+    ensures cause { IsErrOf result ChainFault.StoreFault → Rose (S.disk store.old).faults (S.disk store.new).faults ⊎ (S.tells → ⊥) }
+{
+    let mut begin = last + 1;
+    while kept < begin {
+        let end = begin - 1;
+        begin = if end - kept < PIECE {
+            kept
+        } else {
+            end - (PIECE - 1)
+        };
+        let stretch = read_between(contents, journal, store, begin, end)?;
+        if has_break(stretch.entries(), member) {
+            return Ok(begin);
+        }
+    }
+    Ok(begin)
+}
+
+/// Whether one of the entries is a break of the member.
+fn has_break(entries: &[Entry], member: u32) -> bool {
+    let mut rest = entries;
+    while let [entry, more @ ..] = rest {
+        if breaks(entry, member) {
+            return true;
+        }
+        rest = more;
+    }
+    false
 }

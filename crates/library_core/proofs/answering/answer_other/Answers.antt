@@ -11,9 +11,13 @@ use Rattle.library_core.proofs.answering.answer_other.Goals as goal
 pub answer_read-requires-clause-kept : goal.answer_read-requires-clause-kept
 answer_read-requires-clause-kept g c =
     let s = c.requires.kept.0 in
-    let its = stretch-read g.S.Store.tells s c.read_for.result c.in-Ok.stretch c.in-Ok.is (c.read_for.ensures.read s c.requires.kept.1) in
-    (s, remembered-stays g.S.Store.tells (g.S.Store.disk c.args.store.now) (g.S.Store.disk c.read_for.new.store) c.args.journal.now c.args.contents.now.state s c.read_for.ensures.stays
-    c.requires.kept.1, its.0, its.1)
+    let its = stretch-read g.S.Store.tells s c.read_for.result c.in-Ok.stretch c.in-Ok.is (c.read_for.ensures.read s c.requires.kept.1) in (
+      s,
+      remembered-stays g.S.Store.tells (g.S.Store.disk c.args.store.now) (g.S.Store.disk c.read_for.new.store) c.args.journal.now c.args.contents.now.state s c.read_for.ensures.stays
+          c.requires.kept.1,
+      its.0,
+      its.1,
+    )
 
 pub returns-in-Ok : goal.returns-in-Ok
 returns-in-Ok g c = λ s is.

@@ -16,9 +16,11 @@ pub switch_receivers-requires-clause-running : goal.switch_receivers-requires-cl
 switch_receivers-requires-clause-running g c = subst (λ (s : State). IsTrue (is_running (job_at c.args.job s.jobs))) (sym c.ready_to_attach.ensures.state) c.requires.running
 
 pub switch_receivers-requires-clause-kept : goal.switch_receivers-requires-clause-kept
-switch_receivers-requires-clause-kept g c =
-    (c.requires.kept.0, more-remembered g.S.Store.tells (g.S.Store.disk c.args.store.now) c.args.journal.now c.ready_to_attach.new.journal c.args.contents.now.state
-    c.ready_to_attach.new.contents.state c.requires.kept.0 c.ready_to_attach.ensures.same c.ready_to_attach.ensures.state c.requires.kept.1)
+switch_receivers-requires-clause-kept g c = (
+  c.requires.kept.0,
+  more-remembered g.S.Store.tells (g.S.Store.disk c.args.store.now) c.args.journal.now c.ready_to_attach.new.journal c.args.contents.now.state
+      c.ready_to_attach.new.contents.state c.requires.kept.0 c.ready_to_attach.ensures.same c.ready_to_attach.ensures.state c.requires.kept.1,
+)
 
 pub returns-in-Ok : goal.returns-in-Ok
 returns-in-Ok g c = λ sources s is.
