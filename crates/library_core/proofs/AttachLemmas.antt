@@ -198,7 +198,7 @@ module _ (tells : Type 0) (old : Disk) (before roomy : BookState) (s : State) (s
     abbrev Done : Change
     Done = attach_change (memory_of s) job timestamp number
 
-    done : change sources read (memory_of s) job timestamp ChangeJournal ≡ Ok Done
+    done : change sources s.entries (memory_of s) job timestamp ChangeJournal ≡ Ok Done
     done = attach-done sources s.entries s job timestamp number plan
 
     does-it : Does s Done

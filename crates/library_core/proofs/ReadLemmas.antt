@@ -1,5 +1,5 @@
 -- A journal that was read before a call was done: the store has stayed, so that what the call made of it then it has made of it since the reading began.
-use Rattle.std.proofs.Common.{◌≡◌, ◌≤◌, ◌+◌, inl, inr, ℕ, List, [], length, Result, Ok, refl, sym, ◌∙◌, subst, arith}
+use Rattle.std.proofs.Common.{◌≡◌, ◌≤◌, ◌+◌, inl, inr, ℕ, Bool, List, [], length, Result, Ok, refl, sym, ◌∙◌, ap, subst, arith}
 use Rattle.store_model.specs.Disk.{Areas, Disk, Leaves, Stays}
 use Rattle.store_model.specs.Faults.{Rose}
 use Rattle.store_model.proofs.Runs.{leaves_now, leaves_stays, leaves_then}
@@ -71,7 +71,7 @@ come-behind tells sources old mid new before after m s call failed stays is come
 }
 
 -- nothing was read: that is a part of the journal as it is
-pub none-read : (tells : Type 0) (s : State) (first : ℕ) → IsSound s → s.gone + 1 ≤ first → IsReadOf tells s (entries_from first []) s.entries
+none-read : (tells : Type 0) (s : State) (first : ℕ) → IsSound s → s.gone + 1 ≤ first → IsReadOf tells s (entries_from first []) s.entries
 none-read tells s first sound kept = record { may = own-read s sound; own = λ told. refl; part = record { begins = kept; same = refl } }
 
 -- ---- what was read, over the memory
@@ -88,3 +88,9 @@ part-over m s read stretch memory part = subst (λ (u : State). IsStretchOf (u.g
 pub stretch-read : {E : Type 0} (tells : Type 0) (s : State) (result : Result EntriesFrom E) (stretch : EntriesFrom) → result ≡ Ok stretch → HasRead tells s result
     → (read : List Entry) × IsReadOf tells s stretch read
 stretch-read {E = E} tells s result stretch is has = subst (λ (r : Result EntriesFrom E). HasRead tells s r) is has
+
+pub nothing-has : (tells : Type 0) (m s : State) (stretch : EntriesFrom) → m ≡ remembered s → IsSound s → stretch ≡ entries_from (m.gone + 1) []
+    → (read : List Entry) × IsReadOf tells s stretch read
+nothing-has tells m s stretch memory sound is =
+    let same : m.gone ≡ s.gone = ap (λ (u : State). u.gone) memory in
+    (s.entries, subst (λ (x : EntriesFrom). IsReadOf tells s x s.entries) (sym is) (none-read tells s (m.gone + 1) sound (omega (arith, same))))

@@ -15,6 +15,7 @@ use Rattle.library_steps.specs.Change.{does, unjournaled}
 use Rattle.library_steps.specs.Receivers.{delete_receiver, give_up_plan, given_up, is_kept, is_needed}
 use Rattle.library_steps.specs.Refusals.{◌>>=◌, refuse_if}
 use Rattle.library_steps.specs.Step.{change}
+use Rattle.library_core.specs.Reads.{reads_journal}
 use Rattle.library_core.proofs.ChangeLaws.{still-needed}
 
 pub free-same : (sources : List NamedSource) (a b : List Entry) (m : Memory) (job timestamp : ℕ) (r : Request) → needs_memory r ≡ false
@@ -52,6 +53,41 @@ free-same sources a b m job timestamp (requests.Update args) free = absurd cc
 free-same sources a b m job timestamp (requests.Delete args) free = absurd cc
 free-same sources a b m job timestamp (requests.Unlock args) free = refl
 free-same sources a b m job timestamp (requests.EndJob args) free = refl
+
+-- what reads the journal may want memory
+pub reads-need : (r : Request) → reads_journal r ≡ true → needs_memory r ≡ true
+reads-need (requests.CreatePhysicalFile args) reads = absurd cc
+reads-need (requests.CreateLogicalFile args) reads = absurd cc
+reads-need (requests.DeleteFile args) reads = absurd cc
+reads-need (requests.AddMember args) reads = absurd cc
+reads-need (requests.ClearMember args) reads = absurd cc
+reads-need (requests.ReorganizeMember args) reads = absurd cc
+reads-need (requests.StartJournaling args) reads = absurd cc
+reads-need (requests.EndJournaling args) reads = absurd cc
+reads-need requests.ChangeJournal reads = absurd cc
+reads-need (requests.DeleteReceiver args) reads = absurd cc
+reads-need requests.Checkpoint reads = absurd cc
+reads-need (requests.DisplayJournal args) reads = refl
+reads-need (requests.ApplyChanges args) reads = refl
+reads-need (requests.RemoveChanges args) reads = refl
+reads-need (requests.StartCommitment args) reads = absurd cc
+reads-need requests.EndCommitment reads = absurd cc
+reads-need requests.Commit reads = absurd cc
+reads-need requests.Rollback reads = absurd cc
+reads-need (requests.OpenFile args) reads = absurd cc
+reads-need (requests.CloseFile args) reads = absurd cc
+reads-need (requests.SetLowerLimit args) reads = absurd cc
+reads-need (requests.SetGreaterThan args) reads = absurd cc
+reads-need (requests.Read args) reads = absurd cc
+reads-need (requests.ReadPrior args) reads = absurd cc
+reads-need (requests.ReadEqual args) reads = absurd cc
+reads-need (requests.ReadPriorEqual args) reads = absurd cc
+reads-need (requests.Chain args) reads = absurd cc
+reads-need (requests.Write args) reads = absurd cc
+reads-need (requests.Update args) reads = absurd cc
+reads-need (requests.Delete args) reads = absurd cc
+reads-need (requests.Unlock args) reads = absurd cc
+reads-need (requests.EndJob args) reads = absurd cc
 
 -- ---- DLTJRNRCV
 

@@ -8,6 +8,7 @@ ghost use Rattle.deposited_entries.specs.Deposits.{switches};
 ghost use Rattle.library_model.specs.NeedsMemory.{needs_memory};
 ghost use Rattle.library_steps.specs.State.{memory_of, job_at, job_of};
 ghost use Rattle.library_steps.specs.History.{is_running};
+ghost use Rattle.library_steps.specs.Receivers.{delete_receiver};
 ghost use Rattle.library_steps.specs.Step.{change};
 ghost use Rattle.library_steps.specs.Uses.{changes_in};
 ghost use Rattle.joint_state.specs.Views.{HaveDefaults};
@@ -23,7 +24,7 @@ use file_requests::{
 use journal_reads::Stretch;
 use journal_requests::{delete_receiver, display_journal};
 use library_model::replies::Reply;
-use library_model::requests::Request;
+use library_model::requests::{DeleteReceiver, Request};
 use library_model::sources::Sources;
 use library_parts::{Contents, Stop};
 use range_requests::{apply_changes, remove_changes};
@@ -66,7 +67,7 @@ pub(crate) fn perform(
         Request::StartJournaling(args) => start_journaling(contents, job, timestamp, args),
         Request::EndJournaling(args) => end_journaling(contents, job, timestamp, args),
         Request::ChangeJournal => unreachable!(),
-        Request::DeleteReceiver(args) => delete_receiver(contents, job, args),
+        Request::DeleteReceiver(args) => give_up(contents, job, args),
         Request::DisplayJournal(args) => display_journal(contents, job, args, stretch),
         Request::ApplyChanges(args) => apply_changes(contents, job, timestamp, args, stretch),
         Request::RemoveChanges(args) => remove_changes(contents, job, timestamp, args, stretch),
@@ -90,4 +91,14 @@ pub(crate) fn perform(
         Request::EndJob(_) => end_job(contents, job, timestamp),
         Request::Checkpoint => unreachable!(),
     }
+}
+
+/// DLTJRNRCV: the entries of the receiver that are still needed aren't looked for, as each is while no checkpoint is saved.
+fn give_up(contents: &mut Contents, job: u32, args: &DeleteReceiver) -> Result<Reply, Stop>
+    requires running { IsTrue (is_running (job_at job contents.old.state.jobs)) }
+    requires numbered { AreNumbered (contents.old.state.gone + 1) contents.old.state.entries }
+    requires unsaved { contents.old.state.checkpoint ≡ 0 }
+    ensures { (read : List Entry) → AreNumbered (contents.old.state.gone + 1) read → Answers contents.old.state contents.new.state result (delete_receiver read (memory_of contents.old.state) args.now) }
+{
+    delete_receiver(contents, job, args)
 }
