@@ -27,3 +27,4 @@ pub mod BegunLemmas
 pub mod MemoryLemmas
 pub mod ReadLemmas
 pub mod SameLemmas
+pub mod SpliceLemmas
