@@ -1,5 +1,5 @@
 -- A library that is built of all files and members that a journal leaves is the one that the journal leaves.
-use Rattle.std.proofs.Common.{ℕ, ◌≡◌, true, false, cond, map, filter, List, [], ◌∷◌, refl, sym, ap, ◌∙◌, subst}
+use Rattle.std.proofs.Common.{ℕ, ◌≡◌, true, false, cond, map, filter, length, List, [], ◌∷◌, refl, sym, ap, ◌∙◌, subst}
 use Rattle.std.specs.List.{AllByRecursion}
 use Rattle.entry_codec.specs.declared.entries.Entry.{Entry}
 use Rattle.journal_model.specs.Catalogue.{Catalogue, CatalogFile, is_in_file}
@@ -10,6 +10,8 @@ use Rattle.library_model.specs.Named.{Named, named}
 use Rattle.library_steps.specs.State.{State, FileState}
 use Rattle.restart_model.specs.Libraries.{files_left, journal_with, library_left, member_left, record_length_in, records_then, status_left}
 use Rattle.restart_model.specs.Sources.{descriptions, described_files}
+use Rattle.memory_journal.specs.Blanks.{blanks}
+use Rattle.library_parts.specs.Remembered.{remembered}
 use Rattle.restarted_library.specs.Built.{IsBuilt, files_built, is_of, members_built, status_held, statuses_of}
 use Rattle.restarted_library.specs.Steps.{Leads}
 use Rattle.restarted_library.proofs.BuiltLemmas.{length-built}
@@ -61,7 +63,7 @@ module _ (entries : List Entry) where
       λ i. record { number = m.number; item = record { record_length = sym (same m.file) i; slots = slots.0 i } } ∷ members-each described files same held slots.1 i
 
   pub left-built : (attached : ℕ) (standing : Standing) (s : State) → IsLeft descriptions (λ _. 0) (journal_with entries) standing → s.next_member ≡ standing.next_member
-      → IsBuilt entries attached standing.files standing.members s → s ≡ library_left (λ _. 0) attached (journal_with entries)
+      → IsBuilt (blanks 1 (length entries)) attached standing.files standing.members s → s ≡ remembered (library_left (λ _. 0) attached (journal_with entries))
   left-built attached standing s left next built =
       let shown = described_files standing.files in
       let files : s.files ≡ files_left breaks journal =
@@ -88,9 +90,9 @@ module _ (entries : List Entry) where
   -- the same of what was put into a library that has the entries alone
   pub left-whole : (attached : ℕ) (standing : Standing) (files : List CatalogFile) (members : List HeldMember) (next : ℕ) (first s : State)
       → IsLeft descriptions (λ _. 0) (journal_with entries) standing
-      → files ≡ standing.files → members ≡ standing.members → next ≡ standing.next_member → IsBuilt entries attached [] [] first → Leads first [] [] s files members → s.next_member ≡ next
-      → s ≡ library_left (λ _. 0) attached (journal_with entries)
+      → files ≡ standing.files → members ≡ standing.members → next ≡ standing.next_member → IsBuilt (blanks 1 (length entries)) attached [] [] first → Leads first [] [] s files members → s.next_member ≡ next
+      → s ≡ remembered (library_left (λ _. 0) attached (journal_with entries))
   left-whole attached standing files members next first s left files_are members_are next_is none leads risen =
       left-built attached standing s left (risen ∙ next_is)
-      (subst (λ (f : List CatalogFile). IsBuilt entries attached f standing.members s) files_are
-      (subst (λ (m : List HeldMember). IsBuilt entries attached files m s) members_are (leads entries attached none)))
+      (subst (λ (f : List CatalogFile). IsBuilt (blanks 1 (length entries)) attached f standing.members s) files_are
+      (subst (λ (m : List HeldMember). IsBuilt (blanks 1 (length entries)) attached files m s) members_are (leads (blanks 1 (length entries)) attached none)))

@@ -2,10 +2,11 @@
 ghost use Rattle.std.specs.Prelude.{◌≡◌, ◌+◌, ◌≤◌, List, [], take, length, IfOk, OnOk};
 ghost use Rattle.entry_codec.specs.declared.kinds.FileKind.TheVariants.{Physical};
 ghost use Rattle.journal_model.specs.Catalogue.{CatalogFile};
-ghost use Rattle.journal_model.specs.Journal.{AreNumbered};
+ghost use Rattle.memory_journal.specs.Blanks.{blanks};
 ghost use Rattle.journal_replay.specs.Left.{IsLeft};
 ghost use Rattle.restart_model.specs.Libraries.{journal_with, library_left};
 ghost use Rattle.restart_model.specs.Sources.{descriptions};
+ghost use Rattle.library_parts.specs.Remembered.{remembered};
 ghost use Rattle.restarted_library.specs.Built.{IsBuilt};
 ghost use Rattle.restarted_library.specs.Steps.{AddsOwned, Leads};
 
@@ -20,31 +21,30 @@ use replay_members::Members;
 use replay_step::Replay;
 use std::alloc::{AllocError, Global};
 
-/// The library that these entries leave, of which the replay is what they leave, with this receiver attached. Where something doesn't fit, as in a journal that no
+/// What the memory has of the library that these entries leave, of which the replay is what they leave, with this receiver attached. The entries stay on the disk. Where something doesn't fit, as in a journal that no
 /// library deposited, that is answered like want of memory.
 pub fn restarted_contents(
     alloc: Global,
-    entries: Vec<Entry>,
+    entries: &[Entry],
     replay: Replay,
     attached: u32,
 ) -> Result<Contents, AllocError>
-    requires left { IsLeft descriptions (λ _. 0) (journal_with entries.items) replay }
-    ensures left { IfOk result (λ contents. contents.state ≡ library_left (λ _. 0) attached (journal_with entries.items)) }
+    requires left { IsLeft descriptions (λ _. 0) (journal_with entries.now) replay }
+    ensures left { IfOk result (λ contents. contents.state ≡ remembered (library_left (λ _. 0) attached (journal_with entries.now))) }
 {
-    let mut contents = begun(alloc, entries, attached)?;
+    let mut contents = begun(alloc, entries.len(), attached)?;
     put_all(&mut contents, replay.files(), replay.members())?;
     Ok(contents)
 }
 
-/// A library that has the entries alone.
-fn begun(alloc: Global, entries: Vec<Entry>, attached: u32) -> Result<Contents, AllocError>
-    requires { AreNumbered 1 entries.items }
-    ensures { IfOk result (λ contents. IsBuilt entries.items attached [] [] contents.state) }
+/// A library that has so many entries on the disk, and nothing else.
+fn begun(alloc: Global, count: usize, attached: u32) -> Result<Contents, AllocError>
+    ensures { IfOk result (λ contents. IsBuilt (blanks 1 count) attached [] [] contents.state) }
 {
-    if entries.len() as u64 > LAST_NUMBER {
+    if count as u64 > LAST_NUMBER {
         return Err(AllocError);
     }
-    Ok(Contents::restarted(alloc, entries, attached))
+    Ok(Contents::restarted(alloc, count as u64, attached))
 }
 
 /// Puts all files and members into a library that has none.
