@@ -28,3 +28,4 @@ pub mod MemoryLemmas
 pub mod ReadLemmas
 pub mod SameLemmas
 pub mod SpliceLemmas
+pub mod JudgedLemmas

@@ -12,12 +12,12 @@ use Rattle.joint_state.specs.Sound.{IsSound, MayBeRead}
 use Rattle.joint_state.specs.Told.{IsTold}
 use Rattle.library_core.specs.Reads.{IsReadOf}
 
-each-take : {X : Type 0} (P : X → Type 0) (n : ℕ) (xs : List X) → AllByRecursion P xs → AllByRecursion P (take n xs)
+pub each-take : {X : Type 0} (P : X → Type 0) (n : ℕ) (xs : List X) → AllByRecursion P xs → AllByRecursion P (take n xs)
 each-take P zero xs all = tt
 each-take P (suc n) [] all = tt
 each-take P (suc n) (x ∷ xs) all = (all.0, each-take P n xs all.1)
 
-each-drop : {X : Type 0} (P : X → Type 0) (n : ℕ) (xs : List X) → AllByRecursion P xs → AllByRecursion P (drop n xs)
+pub each-drop : {X : Type 0} (P : X → Type 0) (n : ℕ) (xs : List X) → AllByRecursion P xs → AllByRecursion P (drop n xs)
 each-drop P zero xs all = all
 each-drop P (suc n) [] all = tt
 each-drop P (suc n) (x ∷ xs) all = each-drop P n xs all.1
@@ -85,8 +85,11 @@ module _ (s : State) (from : ℕ) (entries : List Entry) (sound : IsSound s) (ke
       ∙ take-append-drop place s.entries
 
   pub read-spliced : (tells : Type 0) → (tells → entries ≡ take (length entries) (drop place s.entries)) → (all : List Entry) × IsReadOf tells s (entries_from from entries) all
-  read-spliced tells own = (read, record {
-    may = record { count = as-many; numbered = all-numbered; told = all-told };
-    own = λ tell. own-spliced (own tell);
-    part = record { begins = kept; same = part };
-  })
+  read-spliced tells own = (
+    read,
+    record {
+      may = record { count = as-many; numbered = all-numbered; told = all-told };
+      own = λ tell. own-spliced (own tell);
+      part = record { begins = kept; same = part };
+    },
+  )

@@ -1,5 +1,5 @@
 //! What a request reads of the journal, before anything is done. `answering.rt` does the request then.
-ghost use Rattle.std.specs.Prelude.{◌≡◌, ◌+◌, ◌≤◌, true, List, [], IfOk, IsErr, IsErrOf, ◌⊎◌};
+ghost use Rattle.std.specs.Prelude.{◌≡◌, ◌+◌, ◌-◌, ◌≤◌, ◌<◌, ◌^◌, ◌⊎◌, true, false, List, [], length, IfOk, IsErr, IsErrOf, OnOk};
 ghost use Rattle.std.specs.List.{AllByRecursion};
 ghost use Rattle.store_model.specs.Faults.{Rose};
 ghost use Rattle.joint_state.specs.Told.{IsTold};
@@ -9,6 +9,7 @@ ghost use Rattle.library_model.specs.NeedsMemory.{needs_memory};
 ghost use Rattle.library_steps.specs.State.{State, memory_of};
 ghost use Rattle.kept_library.specs.Journaled.{IsRemembered};
 ghost use Rattle.library_core.specs.Puts.{IsAtFault};
+ghost use Rattle.journal_model.specs.Journal.{AreNumbered};
 ghost use Rattle.journal_reads.specs.Stretches.{entries_from};
 ghost use Rattle.library_core.specs.Reads.{HasRead, reads_journal};
 
@@ -96,6 +97,7 @@ fn read_between<S: Store>(
     requires first { contents.now.state.gone + 1 ≤ from }
     requires order { from ≤ to }
     requires last { to ≤ (memory_of contents.now.state).last_entry }
+    requires few { to + 1 < 2 ^ 64 }
     ensures read { (s : State) → IsRemembered S.tells (S.disk store.old) journal.now contents.now.state s → HasRead S.tells s result }
     ensures stays { Stays (S.disk store.old) (S.disk store.new) }
     ensures cause { IsErrOf result ChainFault.StoreFault → Rose (S.disk store.old).faults (S.disk store.new).faults ⊎ (S.tells → ⊥) }
@@ -116,8 +118,14 @@ fn judged(
     entries: Vec<Entry>,
 ) -> Result<Stretch, ChainFault>
     requires order { from ≤ to }
+    requires few { to + 1 < 2 ^ 64 }
+    ensures stretch { IfOk result (λ stretch. stretch ≡ entries_from from entries.items) }
+    ensures long { OnOk result (length entries.items ≡ to + 1 - from) }
+    ensures numbered { OnOk result (AreNumbered from entries.items) }
+    ensures told { OnOk result (AllByRecursion (IsTold contents.now.state.files) entries.items) }
+    ensures other { IsErr result → length entries.items ≡ to + 1 - from → AreNumbered from entries.items → AllByRecursion (IsTold contents.now.state.files) entries.items → ⊥ }
 {
-    if (entries.len() as u64) < 1 || entries.len() as u64 - 1 != to - from {
+    if entries.len() as u64 != to - from + 1 {
         return Err(ChainFault::StoreFault);
     }
     if !are_told(contents, entries.as_slice()) {
@@ -131,7 +139,8 @@ fn judged(
 
 /// Whether each entry that names a member which a file has tells of records of that file, at places that they may have.
 fn are_told(contents: &Contents, entries: &[Entry]) -> bool
-    ensures { result ≡ true → AllByRecursion (IsTold contents.now.state.files) entries.now }
+    ensures told { result ≡ true → AllByRecursion (IsTold contents.now.state.files) entries.now }
+    ensures other { result ≡ false → AllByRecursion (IsTold contents.now.state.files) entries.now → ⊥ }
 {
     let mut rest = entries;
     while let [entry, more @ ..] = rest {
@@ -191,6 +200,7 @@ fn break_before<S: Store>(
     requires first { contents.now.state.gone + 1 ≤ kept }
     requires order { kept ≤ last }
     requires end { last ≤ (memory_of contents.now.state).last_entry }
+    requires few { last + 1 < 2 ^ 64 }
     ensures first { IfOk result (λ begin. kept ≤ begin × begin ≤ last) }
     ensures stays { Stays (S.disk store.old) (S.disk store.new) }
     ensures cause { IsErrOf result ChainFault.StoreFault → Rose (S.disk store.old).faults (S.disk store.new).faults ⊎ (S.tells → ⊥) }
