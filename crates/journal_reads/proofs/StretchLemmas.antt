@@ -89,7 +89,8 @@ before-push prior [] e = refl
 before-push prior (d ∷ entries) e = before-push (Some d) entries e
 
 -- the entry before those behind the first so many is the one before the same of a part that has it
-before-part : (prior : Option Entry) (skipped some : ℕ) (xs : List Entry) → 0 < some → 0 < length (drop skipped xs) → entry_before prior (take (skipped + some) xs) ≡ entry_before None (take some (drop skipped xs))
+before-part : (prior : Option Entry) (skipped some : ℕ) (xs : List Entry) → 0 < some → 0 < length (drop skipped xs)
+    → entry_before prior (take (skipped + some) xs) ≡ entry_before None (take some (drop skipped xs))
 before-part prior zero zero xs h there = absurd (omega (arith, h))
 before-part prior zero (suc some) [] h there = absurd (omega (arith, there))
 before-part prior zero (suc some) (x ∷ xs) h there = let same : 0 + suc some ≡ suc some = omega arith in ap (λ n. entry_before prior (take n (x ∷ xs))) same
@@ -99,7 +100,8 @@ before-part prior (suc skipped) some (x ∷ xs) h there =
     ap (λ n. entry_before prior (take n (x ∷ xs))) same ∙ before-part (Some x) skipped some xs h there
 
 -- the entry before a place of the stretch is that of what was read
-pub before-read : (kept : ℕ) (read : List Entry) (stretch : EntriesFrom) (sequence m i : ℕ) (e : Entry) → IsStretchOf kept read stretch → stretch.first + m ≡ sequence → m ≡ i + 1 → i < length stretch.entries
+pub before-read : (kept : ℕ) (read : List Entry) (stretch : EntriesFrom) (sequence m i : ℕ) (e : Entry) → IsStretchOf kept read stretch → stretch.first + m ≡ sequence → m ≡ i + 1
+    → i < length stretch.entries
     → e ≡ get_or stretch.entries i e → Some e ≡ entry_before None (take (sequence - kept) read)
 before-read kept read stretch sequence m i e is place next below at =
     let n = length stretch.entries in

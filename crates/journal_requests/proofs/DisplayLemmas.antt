@@ -27,7 +27,7 @@ drop-none : (s : State) → s ≡ record s { entries = drop (s.gone - s.gone) (s
 drop-none s = let none : s.gone - s.gone ≡ 0 = omega arith in ap (λ (es : List Entry). record s { entries = es }) (sym (ap (λ (k : ℕ). drop k (s.entries ++ [])) none ∙ append-nil s.entries))
 
 -- the entries are shown, and nothing is changed
-pub shown-answers : (s : State) (args : DisplayJournal) (shown entries : List Entry) → display_plan s.entries (memory_of s) args ≡ Ok shown → entries ≡ shown
-    → Answers s s (Ok (Entries entries)) (display_journal s.entries (memory_of s) args)
-shown-answers s args shown entries plan same =
+pub shown-answers : (s : State) (args : DisplayJournal) (read shown entries : List Entry) → display_plan read (memory_of s) args ≡ Ok shown → entries ≡ shown
+    → Answers s s (Ok (Entries entries)) (display_journal read (memory_of s) args)
+shown-answers s args read shown entries plan same =
     (unjournaled (Entries shown) (memory_of s), ap (does (λ es. unjournaled (Entries es) (memory_of s))) plan, ap Entries (sym same), drop-none s)

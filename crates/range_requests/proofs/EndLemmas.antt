@@ -1,9 +1,8 @@
--- The first sequence behind the last break of a member, entry by entry; and the entries that are kept.
-use Rattle.std.proofs.Common.{◌≡◌, ℕ, zero, suc, ◌+◌, ◌-◌, ◌≤◌, ◌<◌, nat_lt, Bool, true, false, cond, List, [], ◌∷◌, ◌++◌, length, take, drop, get_or, reverse, Option, Some, None, unwrap_or, Ok, Err, refl, sym, ap, ◌∙◌, subst, arith}
+-- The first sequence behind the last break of a member, entry by entry; and parts of entries.
+use Rattle.std.proofs.Common.{◌≡◌, ℕ, zero, suc, ◌+◌, ◌-◌, ◌≤◌, ◌<◌, Bool, true, false, cond, List, [], ◌∷◌, ◌++◌, length, take, drop, get_or, reverse, Option, Some, None, unwrap_or, refl, sym, ap, ◌∙◌, subst, arith}
 use Rattle.std.specs.List.{find}
 use Rattle.std.specs.Option.{option_map}
-use Rattle.std.proofs.lemmas.List.{reverse-append, take_more}
-use Rattle.std.proofs.lemmas.Bool.Decides.{nat_tests}
+use Rattle.std.proofs.lemmas.List.{reverse-append, take-append-drop, take_more}
 use Rattle.entry_codec.specs.declared.entries.Entry.{Entry}
 use Rattle.entry_codec.specs.declared.kinds.EntryKind.{EntryKind}
 use Rattle.entry_codec.specs.declared.kinds.EntryKind.TheVariants.{FileCreated, FileDeleted, MemberAdded, JournalingStarted, InitialSlot, JournalingEnded, MemberCleared, MemberReorganized, ChangesApplied, ChangesRemoved, RecordAdded, RecordAddedAtNumber, BeforeImage}
@@ -11,17 +10,13 @@ use Rattle.entry_codec.specs.declared.kinds.EntryKind.TheVariants.{AfterImage, R
 use Rattle.journal_model.specs.Acts.{act, acts, act_there, act_elsewhere, entry_before, is_number}
 use Rattle.journal_model.specs.Journal.{AreNumbered}
 use Rattle.journal_model.specs.Ranges.{Placed, placed, is_break, first_of}
-use Rattle.library_model.specs.declared.replies.Reply.{Reply}
-use Rattle.library_steps.specs.JournalReads.{first_kept, is_no_range}
-use Rattle.library_steps.specs.Refusals.{◌>>=◌, refuse_if}
+use Rattle.journal_reads.specs.Stretches.{EntriesFrom}
+use Rattle.journal_reads.proofs.StretchLemmas.{rest-read}
 use Rattle.library_steps.specs.State.{State, memory_of}
-use Rattle.library_parts.specs.declared.stop.Stop.{Stop}
-use Rattle.library_parts.specs.declared.stop.Stop.TheVariants.{NoMemory, Refused}
-use Rattle.library_parts.specs.Answers.{Shows}
-use Rattle.library_parts.specs.Finds.{entries_read}
 use Rattle.group_bounds.specs.Bounds as bounds
 use Rattle.range_images.specs.Sides as sides
 use Rattle.range_requests.specs.Ends.{behind_break}
+use Rattle.range_requests.specs.Plans.{IsRead}
 
 -- ---- a break doesn't depend on the entry before it
 
@@ -125,57 +120,51 @@ drop-whole zero (x ∷ xs) h = absurd (omega arith)
 drop-whole (suc i) (x ∷ xs) h = drop-whole i xs (omega arith)
 
 -- one entry less at the end
-pub behind-step : (member kept : ℕ) (entries : List Entry) (m i : ℕ) (e : Entry) → m ≡ i + 1 → i < length entries → e ≡ get_or entries i e
-    → behind_break member kept kept (take m entries) ≡ cond (is_break (act member None e)) (kept + i + 1) (behind_break member kept kept (take i entries))
-behind-step member kept entries m i e next below is =
-    ap (λ (k : ℕ). behind_break member kept kept (take k entries)) next
-    ∙ ap (behind_break member kept kept) (take_more entries i e below)
-    ∙ ap (λ (d : Entry). behind_break member kept kept (take i entries ++ d ∷ [])) (sym is)
-    ∙ behind-push member kept kept e (take i entries)
-    ∙ ap (λ (k : ℕ). cond (is_break (act member None e)) (kept + k + 1) (behind_break member kept kept (take i entries))) (length-take i entries (omega arith))
+pub behind-step : (member now at : ℕ) (entries : List Entry) (m i : ℕ) (e : Entry) → m ≡ i + 1 → i < length entries → e ≡ get_or entries i e
+    → behind_break member now at (take m entries) ≡ cond (is_break (act member None e)) (at + i + 1) (behind_break member now at (take i entries))
+behind-step member now at entries m i e next below is =
+    ap (λ (k : ℕ). behind_break member now at (take k entries)) next
+    ∙ ap (behind_break member now at) (take_more entries i e below)
+    ∙ ap (λ (d : Entry). behind_break member now at (take i entries ++ d ∷ [])) (sym is)
+    ∙ behind-push member now at e (take i entries)
+    ∙ ap (λ (k : ℕ). cond (is_break (act member None e)) (at + k + 1) (behind_break member now at (take i entries))) (length-take i entries (omega arith))
 
-pub behind-whole : (member kept : ℕ) (entries : List Entry) (m : ℕ) → length entries ≤ m → behind_break member kept kept (take m entries) ≡ behind_break member kept kept entries
-behind-whole member kept entries m h = ap (behind_break member kept kept) (take-whole m entries h)
+-- ---- a stretch that reaches the end
 
--- ---- the entries that are kept
+behind-append : (member now at : ℕ) (front entries : List Entry) → behind_break member now at (front ++ entries) ≡ behind_break member (behind_break member now at front) (at + length front) entries
+behind-append member now at [] entries = let same : at ≡ at + 0 = omega arith in ap (λ (n : ℕ). behind_break member now n entries) same
+behind-append member now at (e ∷ front) entries =
+    let same : at + 1 + length front ≡ at + suc (length front) = omega arith in
+    let next = cond (is_break (act member None e)) (at + 1) now in
+    behind-append member next (at + 1) front entries ∙ ap (λ (n : ℕ). behind_break member (behind_break member next (at + 1) front) n entries) same
 
-read-by : (b k : Bool) (es shown : List Entry) (r q : Reply) → (refuse_if b r >>= λ t. refuse_if k q >>= λ u. Ok es) ≡ Ok shown → es ≡ shown
-read-by true k es shown r q h = absurd cc
-read-by false true es shown r q h = absurd cc
-read-by false false es shown r q h = cc
+module _ (s : State) (stretch : EntriesFrom) (read : List Entry) (is : IsRead s stretch read) (reached : stretch.first + length stretch.entries ≡ (memory_of s).last_entry + 1) where
+  -- what the stretch tells of the last break, or the entries before it
+  first-told : (member : ℕ) (told : Option ℕ) → ((now : ℕ) → behind_break member now stretch.first stretch.entries ≡ unwrap_or told now)
+      → first_of (s.gone + 1) (acts member None read) ≡ unwrap_or told (behind_break member (s.gone + 1) (s.gone + 1) (take (stretch.first - (s.gone + 1)) read))
+  first-told member told tells =
+      let kept = s.gone + 1 in
+      let skipped = stretch.first - kept in
+      let whole : stretch.first + length stretch.entries ≡ kept + length read = omega (arith, reached, is.many) in
+      let short : skipped ≤ length read = omega (arith, whole, is.part.begins) in
+      let place : kept + length (take skipped read) ≡ stretch.first = omega (arith, length-take skipped read short, is.part.begins) in
+      let before = behind_break member kept kept (take skipped read) in
+      first_of-behind member kept read
+      ∙ ap (behind_break member kept kept) (sym (take-append-drop skipped read))
+      ∙ behind-append member kept kept (take skipped read) (drop skipped read)
+      ∙ (λ i. behind_break member before (place i) (rest-read kept read stretch is.part whole i))
+      ∙ tells before
 
-drop-zero : {X : Type 0} (n : ℕ) (xs : List X) → drop (n - n) xs ≡ xs
-drop-zero n xs = let none : n - n ≡ 0 = omega arith in ap (λ k. drop k xs) none
+  -- it has a break
+  pub first-behind : (member behind : ℕ) → ((now : ℕ) → behind_break member now stretch.first stretch.entries ≡ unwrap_or (Some behind) now) → behind ≡ first_of (s.gone + 1) (acts member None read)
+  first-behind member behind tells = sym (first-told member (Some behind) tells)
 
-pub whole-shown : (s : State) (first last : ℕ) (shown : List Entry) → first ≡ s.gone + 1 → last ≡ s.gone + length s.entries → entries_read first last s ≡ Ok shown → shown ≡ s.entries
-whole-shown s first last shown is_first is_last h =
-    let m = memory_of s in
-    let all : last + 1 - first ≡ length s.entries = omega (arith, is_first, is_last) in
-    let none : first - (s.gone + 1) ≡ 0 = omega (arith, is_first) in
-    sym (read-by (is_no_range first last m) (nat_lt first (first_kept m)) _ shown _ _ h)
-    ∙ ap (λ (k : ℕ). take k (drop (first - (s.gone + 1)) s.entries)) all
-    ∙ ap (λ (k : ℕ). take (length s.entries) (drop k s.entries)) none
-    ∙ take-whole (length s.entries) s.entries (omega arith)
-
-read-goes : (b k : Bool) (es : List Entry) (r q reply : Reply) → b ≡ false → k ≡ false → (refuse_if b r >>= λ t. refuse_if k q >>= λ u. Ok es) ≡ Err reply → ⊥
-read-goes true k es r q reply hb hk h = absurd cc
-read-goes false true es r q reply hb hk h = absurd cc
-read-goes false false es r q reply hb hk h = absurd cc
-
-some-read : (s : State) (first last : ℕ) (reply : Reply) → first ≡ s.gone + 1 → last ≡ s.gone + length s.entries → 0 < length s.entries → entries_read first last s ≡ Err reply → ⊥
-some-read s first last reply is_first is_last some h =
-    let m = memory_of s in
-    let there : is_no_range first last m ≡ false = grind (arith, nat_tests, is_first, is_last, some) in
-    let kept : nat_lt first (first_kept m) ≡ false = grind (arith, nat_tests, is_first) in
-    read-goes (is_no_range first last m) (nat_lt first (first_kept m)) _ _ _ reply there kept h
-
-none-by : (entries : List Entry) → (0 < length entries → ⊥) → [] ≡ entries
-none-by [] h = refl
-none-by (e ∷ entries) h = absurd (h (omega arith))
-
-pub none-shown : (s : State) (first last : ℕ) (stop : Stop) → first ≡ s.gone + 1 → last ≡ s.gone + length s.entries → Shows {A = List Entry} (Err stop) (entries_read first last s) → [] ≡ s.entries
-none-shown s first last NoMemory is_first is_last h = absurd h
-none-shown s first last (Refused reply) is_first is_last h = none-by s.entries (λ some. some-read s first last reply is_first is_last some h)
+  -- it has none, and nothing stands before it
+  pub first-whole : (member : ℕ) → ((now : ℕ) → behind_break member now stretch.first stretch.entries ≡ unwrap_or None now) → stretch.first ≡ s.gone + 1
+      → s.gone + 1 ≡ first_of (s.gone + 1) (acts member None read)
+  first-whole member tells begins =
+      let none : stretch.first - (s.gone + 1) ≡ 0 = omega (arith, begins) in
+      sym (first-told member None tells ∙ ap (λ (n : ℕ). behind_break member (s.gone + 1) (s.gone + 1) (take n read)) none)
 
 -- ---- parts of them
 

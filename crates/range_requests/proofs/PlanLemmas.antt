@@ -1,11 +1,12 @@
 -- What a plan has of the work that a request does, and that its slots may be given.
-use Rattle.std.proofs.Common.{◌≡◌, ℕ, ◌+◌, ◌-◌, ◌*◌, ◌<◌, ◌≤◌, nat_lt, Bool, true, false, List, [], ◌∷◌, ◌++◌, length, map, flat_map, Option, Some, None, MatchOption, unwrap_or, Result, Ok, Err, refl, sym, ap, ◌∙◌, subst, arith}
+use Rattle.std.proofs.Common.{◌≡◌, ℕ, ◌+◌, ◌-◌, ◌*◌, ◌<◌, ◌≤◌, nat_lt, Bool, true, false, List, [], ◌∷◌, length, map, Option, Some, None, MatchOption, unwrap_or, Result, Ok, Err, IfOk, refl, sym, ap, ◌∙◌, subst, arith}
 use Rattle.std.specs.Borrow.{Bor}
 use Rattle.std.specs.List.{AllByRecursion}
 use Rattle.std.proofs.Math.Nat.{add-mul}
 use Rattle.std.proofs.lemmas.Bool.Decides.{nat_tests}
 use Rattle.std.proofs.lemmas.List.Sums.{sum_by-cons}
 use Rattle.entry_codec.specs.declared.entries.Draft.{Draft}
+use Rattle.entry_codec.specs.declared.entries.Entry.{Entry}
 use Rattle.entry_codec.specs.declared.kinds.EntryKind.{EntryKind}
 use Rattle.entry_codec.specs.declared.kinds.EntryKind.TheVariants.{ChangesApplied, ChangesRemoved}
 use Rattle.entry_codec.specs.Drafts.{numbered}
@@ -38,7 +39,7 @@ use Rattle.lawful_states.specs.Lawful.{HoldsValues}
 use Rattle.lawful_states.proofs.MemberLemmas.{HasRecords-member_of, IsThere-IsSome, library_bytes-with}
 use Rattle.library_parts.specs.Sizes.{draft_bytes, draft_size}
 use Rattle.range_images.specs.declared.slot_given.SlotGiven.{SlotGiven}
-use Rattle.range_images.specs.Given.{given_slots}
+use Rattle.range_images.specs.Given.{AreInPlace, given_slots}
 use Rattle.range_requests.specs.declared.found.Found.{Found}
 use Rattle.range_requests.specs.declared.walks.Walk.{Walk}
 use Rattle.range_requests.specs.declared.tells.Way.{Way}
@@ -77,17 +78,17 @@ abbrev pub remove_work : State → ℕ → ℕ → Range → RangeDone → Range
 remove_work s job timestamp range done =
     work_of (author_of (memory_of s) job timestamp) (λ d. ChangesRemoved d.first d.last (length d.changes)) (λ d. given_back d.changes) range (memory_of s) done
 
-pub apply-is : (s : State) (job timestamp : ℕ) (args : JournaledChanges)
-    → apply_plan s.entries (memory_of s) job timestamp args
-    ≡ plan_by (range_named args args.from args.to s.entries (memory_of s)) (λ range. apply_range range.first range.acts (slots_now range (memory_of s))) (apply_work s job timestamp) (memory_of s)
+pub apply-is : (s : State) (read : List Entry) (job timestamp : ℕ) (args : JournaledChanges)
+    → apply_plan read (memory_of s) job timestamp args
+    ≡ plan_by (range_named args args.from args.to read (memory_of s)) (λ range. apply_range range.first range.acts (slots_now range (memory_of s))) (apply_work s job timestamp) (memory_of s)
 unfolding apply_plan
-apply-is s job timestamp args = refl
+apply-is s read job timestamp args = refl
 
-pub remove-is : (s : State) (job timestamp : ℕ) (args : JournaledChanges)
-    → remove_plan s.entries (memory_of s) job timestamp args
-    ≡ plan_by (range_named args args.to args.from s.entries (memory_of s)) (λ range. remove_range range.first range.acts (slots_now range (memory_of s))) (remove_work s job timestamp) (memory_of s)
+pub remove-is : (s : State) (read : List Entry) (job timestamp : ℕ) (args : JournaledChanges)
+    → remove_plan read (memory_of s) job timestamp args
+    ≡ plan_by (range_named args args.to args.from read (memory_of s)) (λ range. remove_range range.first range.acts (slots_now range (memory_of s))) (remove_work s job timestamp) (memory_of s)
 unfolding remove_plan
-remove-is s job timestamp args = refl
+remove-is s read job timestamp args = refl
 
 -- ---- limits and keys
 
@@ -136,10 +137,11 @@ few-drafts (d ∷ drafts) = let rest = few-drafts drafts in omega (arith, rest, 
 
 -- ---- the plan of a walk
 
-pub plan-of : (s : State) (author : Author) (found : Found) (status : MemberStatus) (walk : Walk) (way : Way) (plan : Plan) (kind : RangeDone → EntryKind) (gives : List Numbered → List Given) (answer : Result RangeDone RangeFault)
+pub plan-of : (s : State) (read : List Entry) (author : Author) (found : Found) (status : MemberStatus) (walk : Walk) (way : Way) (plan : Plan)
+    (kind : RangeDone → EntryKind) (gives : List Numbered → List Given) (answer : Result RangeDone RangeFault)
     → ((d : RangeDone) → kind d ≡ kind_of way d.first d.last (length d.changes)) → status.number ≡ found.member → (walked : IsWalked answer (slots_of s found.member) gives walk) → IsToldBy s author found walk way plan
-    → IsPlanOf s (work_of author kind (λ d. gives d.changes) (range_between status found.first found.last s.entries (memory_of s)) (memory_of s) walked.done) plan
-plan-of s author found status walk way plan kind gives answer kinds number walked by = record {
+    → IsPlanOf s (work_of author kind (λ d. gives d.changes) (range_between status found.first found.last read (memory_of s)) (memory_of s) walked.done) plan
+plan-of s read author found status walk way plan kind gives answer kinds number walked by = record {
   number = number ∙ sym by.member;
   slots = walked.slots_left ∙ (λ i. given_slots (sym by.given i) (slots_of s (sym by.member i)));
   drafts =
@@ -177,16 +179,16 @@ each-stands s number [] fit = tt
 each-stands s number (g ∷ given) fit =
     (λ name file owns. values-of (fields_of file) g.slot (fit name file owns).0.slot, each-stands s number given (λ other another owned. (fit other another owned).1))
 
-pub may-give : (s : State) (found : Found) (walk : Walk) (plan : Plan) (answer : Result RangeDone RangeFault) (gives : List Numbered → List Given) → IsKept s found → IsFitWalk s found walk
-    → IsWalked answer (slots_of s found.member) gives walk → plan.member ≡ found.member → plan.given.items ≡ walk.given.items → limits s plan ≡ Ok true → MayGive s plan.member plan.given.items
-may-give s found walk plan answer gives kept fit walked member given hold =
+pub may-give : (s : State) (found : Found) (walk : Walk) (plan : Plan) → IsKept s found → IsFitWalk s found walk
+    → AreInPlace 1 walk.given.items (slots_of s found.member) → plan.member ≡ found.member → plan.given.items ≡ walk.given.items → limits s plan ≡ Ok true → MayGive s plan.member plan.given.items
+may-give s found walk plan kept fit places member given hold =
     let has = HasRecords-member_of (fields_of found.file.now) found.member s.members kept.has in
     let both = limits-both _ _ _ _ hold in
     let bytes : library_bytes (members_given plan.member plan.given.items s.members) ≤ MOST_LIBRARY_BYTES = grind (arith, nat_tests, both.0) in
     let same : library_bytes (members_given found.member walk.given.items s.members) ≡ library_bytes (members_given plan.member plan.given.items s.members) = (λ i. library_bytes (members_given (sym member i) (sym given i) s.members)) in
     let may : MayGive s found.member walk.given.items = record {
       there = IsThere-IsSome (fields_of found.file.now) found.member s.members kept.has;
-      takes = record { places = walked.places; records = fit.records; each = each-fits s found.member kept.name found.file.now walk.given.items kept.owns has.long fit.fit };
+      takes = record { places = places; records = fit.records; each = each-fits s found.member kept.name found.file.now walk.given.items kept.owns has.long fit.fit };
       values = each-stands s found.member walk.given.items fit.fit;
       bytes = omega (arith, same, bytes);
     } in
@@ -239,14 +241,20 @@ limits-ok s plan few small = refused-none _ _ _ _ (not-over MOST_LIBRARY_BYTES _
 
 -- ---- a plan that is refused
 
-pub finds-gives : (s : State) (stop : Stop) (named : Result Range Reply) (wanted : Result RangeWork Reply) → ((reply : Reply) → named ≡ Err reply → wanted ≡ Err reply) → Finds s (Err stop) named → GivesPlan s (Err stop) wanted
-finds-gives s NoMemory named wanted goes found = tt
-finds-gives s (Refused reply) named wanted goes found = goes reply found
+pub finds-gives : (s : State) (read : List Entry) (stop : Stop) (named : Result Range Reply) (wanted : Result RangeWork Reply) → ((reply : Reply) → named ≡ Err reply → wanted ≡ Err reply)
+    → Finds s read (Err stop) named → GivesPlan s (Err stop) wanted
+finds-gives s read NoMemory named wanted goes found = tt
+finds-gives s read (Refused reply) named wanted goes found = goes reply found
 
 pub walks-gives : (s : State) (stop : Stop) (answer : Result RangeDone RangeFault) (slots : List Slot) (gives : List Numbered → List Given) (wanted : Result RangeWork Reply)
     → ((reply : Reply) → done_or_refused answer ≡ Err reply → wanted ≡ Err reply) → Walks (Err stop) answer slots gives → GivesPlan s (Err stop) wanted
 walks-gives s NoMemory answer slots gives wanted goes walked = tt
 walks-gives s (Refused reply) answer slots gives wanted goes walked = goes reply walked
+
+pub walks-places : (result : Result Walk Stop) (answer : Result RangeDone RangeFault) (slots : List Slot) (gives : List Numbered → List Given) → Walks result answer slots gives
+    → IfOk result (λ (walk : Walk). AreInPlace 1 walk.given.items slots)
+walks-places (Ok walk) answer slots gives walked = walked.places
+walks-places (Err stop) answer slots gives walked = tt
 
 pub allows-gives : (s : State) (stop : Stop) (test : Result Bool Reply) (wanted : Result RangeWork Reply) → ((reply : Reply) → test ≡ Err reply → wanted ≡ Err reply) → Allows (Err stop) test → GivesPlan s (Err stop) wanted
 allows-gives s NoMemory test wanted goes allowed = tt

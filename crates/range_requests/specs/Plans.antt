@@ -1,5 +1,7 @@
 -- What a plan has of the work that a request does.
 use Rattle.std.specs.Prelude.{◌≡◌, ℕ, ◌+◌, ◌≤◌, Bool, Result, Ok, Err, List, length}
+use Rattle.entry_codec.specs.declared.entries.Entry.{Entry}
+use Rattle.journal_reads.specs.Stretches.{EntriesFrom, IsStretchOf}
 use Rattle.member_slots.specs.Members.{member_at, member_of}
 use Rattle.lawful_states.specs.Owners.{Owns}
 use Rattle.library_model.specs.declared.replies.Reply.{Reply}
@@ -15,11 +17,16 @@ use Rattle.range_images.specs.Given.{given_slots}
 use Rattle.range_requests.specs.declared.found.Found.{Found}
 use Rattle.range_requests.specs.declared.plans.Plan.{Plan}
 
+-- what was read of the journal: as many entries as it keeps, of which the stretch is a part
+pub record IsRead (s : State) (stretch : EntriesFrom) (read : List Entry) : Type 0 where
+  pub many : length read ≡ length s.entries
+  pub part : IsStretchOf (s.gone + 1) read stretch
+
 -- the range that was found: its member, which a file has, and its ends, between which entries are kept
-pub record IsFound (s : State) (found : Found) (range : Range) : Type 0 where
+pub record IsFound (s : State) (read : List Entry) (found : Found) (range : Range) : Type 0 where
   pub status : MemberStatus
   pub number : status.number ≡ found.member
-  pub same : range ≡ range_between status found.first found.last s.entries (memory_of s)
+  pub same : range ≡ range_between status found.first found.last read (memory_of s)
 
 -- between its ends entries are kept, and its file has its member, which is there
 pub record IsKept (s : State) (found : Found) : Type 0 where
@@ -30,10 +37,10 @@ pub record IsKept (s : State) (found : Found) : Type 0 where
   pub owns : Owns s.files name found.file.now found.member
   pub has : IsThere (fields_of found.file.now) (member_at found.member s.members)
 
-abbrev pub Finds : State → Result Found Stop → Result Range Reply → Type 0
-Finds s (Ok found) wanted = (range : Range) × (wanted ≡ Ok range) × IsFound s found range
-Finds s (Err NoMemory) wanted = ⊥
-Finds s (Err (Refused reply)) wanted = wanted ≡ Err reply
+abbrev pub Finds : State → List Entry → Result Found Stop → Result Range Reply → Type 0
+Finds s read (Ok found) wanted = (range : Range) × (wanted ≡ Ok range) × IsFound s read found range
+Finds s read (Err NoMemory) wanted = Unit {0}
+Finds s read (Err (Refused reply)) wanted = wanted ≡ Err reply
 
 -- no unique path of the member would have two records with one key
 abbrev pub keys_apart : State → RangeWork → Result Bool Reply

@@ -2,6 +2,7 @@
 use Rattle.std.specs.Prelude.{◌≡◌, ℕ, ◌+◌, ◌<◌, ◌≤◌, nat_lt, Bool, Result, List, length, map}
 use Rattle.std.specs.List.{AllByRecursion}
 use Rattle.std.specs.Option.{option_copied}
+use Rattle.entry_codec.specs.declared.entries.Entry.{Entry}
 use Rattle.member_slots.specs.declared.slot.Slot.{Slot}
 use Rattle.member_slots.specs.Members.{member_of}
 use Rattle.lawful_states.specs.Owners.{Owns}
@@ -36,17 +37,20 @@ abbrev pub slots_of : State → ℕ → List Slot
 slots_of s number = (member_of number s.members).slots
 
 -- the entries of the range, and the one before them
-pub record IsReadOf (s : State) (found : Found) (read : Read) : Type 0 where
-  pub entries : read.entries.now ≡ entries_between found.first found.last (memory_of s) s.entries
-  pub prior : option_copied read.prior ≡ prior_to found.first (memory_of s) s.entries
-  pub some : 0 < length read.entries.now
-  pub first : first_sequence read.entries.now ≡ found.first
-  pub numbered : AreNumbered (first_sequence read.entries.now) read.entries.now
+pub record IsReadOf (s : State) (read : List Entry) (found : Found) (shown : Read) : Type 0 where
+  pub entries : shown.entries.now ≡ entries_between found.first found.last (memory_of s) read
+  pub prior : option_copied shown.prior ≡ prior_to found.first (memory_of s) read
+
+-- there are some, and they follow each other from the range's first on
+pub record IsFrom (found : Found) (shown : Read) : Type 0 where
+  pub some : 0 < length shown.entries.now
+  pub first : first_sequence shown.entries.now ≡ found.first
+  pub numbered : AreNumbered (first_sequence shown.entries.now) shown.entries.now
 
 -- the range is gone through in this way
-abbrev pub WalksRange : State → Found → (ℕ → List Act → List Slot → Result RangeDone RangeFault) → (List Numbered → List Given) → Result Walk Stop → Type 0
-WalksRange s found walk gives result =
-    Walks result (walk found.first (acts found.member (prior_to found.first (memory_of s) s.entries) (entries_between found.first found.last (memory_of s) s.entries)) (slots_of s found.member))
+abbrev pub WalksRange : State → List Entry → Found → (ℕ → List Act → List Slot → Result RangeDone RangeFault) → (List Numbered → List Given) → Result Walk Stop → Type 0
+WalksRange s read found walk gives result =
+    Walks result (walk found.first (acts found.member (prior_to found.first (memory_of s) read) (entries_between found.first found.last (memory_of s) read)) (slots_of s found.member))
     (slots_of s found.member) gives
 
 -- what the walk gives fits the member

@@ -1,5 +1,5 @@
 -- What is known of the slots that going through a range gives to a member?
-use Rattle.std.specs.Prelude.{◌≡◌, Result, Ok, Err, List, [], ◌∷◌, length, map}
+use Rattle.std.specs.Prelude.{◌≡◌, Result, Ok, Err, List, length, map}
 use Rattle.member_slots.specs.declared.slot.Slot.{Slot}
 use Rattle.journal_model.specs.Walks.{Numbered, RangeFault}
 use Rattle.journal_model.specs.Ranges.{RangeDone}

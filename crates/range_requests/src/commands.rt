@@ -1,5 +1,8 @@
 //! APYJRNCHG and RMVJRNCHG.
-ghost use Rattle.std.specs.Prelude.{◌≡◌, ◌+◌, ◌≤◌, length, Ok, IsTrue, IfOk, OnOk};
+ghost use Rattle.std.specs.Prelude.{◌≡◌, ◌+◌, ◌≤◌, List, length, Ok, IsTrue, IfOk, OnOk};
+ghost use Rattle.entry_codec.specs.declared.entries.Entry.{Entry};
+ghost use Rattle.journal_model.specs.Journal.{AreNumbered};
+ghost use Rattle.journal_reads.specs.Stretches.{IsStretchOf};
 ghost use Rattle.member_slots.specs.Members.{member_of};
 ghost use Rattle.library_steps.specs.History.{is_running};
 ghost use Rattle.library_steps.specs.Ranges.{apply_changes, remove_changes, RangeWork};
@@ -12,38 +15,41 @@ ghost use Rattle.range_requests.specs.Steps.{IsWithin};
 
 use crate::plans::{Plan, plan_apply, plan_remove};
 use given_changes::slots_after;
+use journal_reads::Stretch;
 use library_model::replies::Reply;
 use library_model::requests::JournaledChanges;
 use library_parts::{Contents, Stop, deposit_all, deposits_leave, reserve_all};
 use path_set::moves::Moves;
 use std::alloc::AllocError;
 
-/// Makes the changes of a range again in a member.
+/// Makes the changes of a range again in a member, where the stretch of the journal has them.
 pub fn apply_changes(
     contents: &mut Contents,
     job: u32,
     timestamp: u64,
     args: &JournaledChanges,
+    stretch: &Stretch,
 ) -> Result<Reply, Stop>
     requires running { IsTrue (is_running (job_at job contents.old.state.jobs)) }
-    ensures answers { Answers contents.old.state contents.new.state result (apply_changes contents.old.state.entries (memory_of contents.old.state) job timestamp args.now) }
+    ensures answers { (read : List Entry) → length read ≡ length contents.old.state.entries → AreNumbered (contents.old.state.gone + 1) read → IsStretchOf (contents.old.state.gone + 1) read stretch.now → Answers contents.old.state contents.new.state result (apply_changes read (memory_of contents.old.state) job timestamp args.now) }
 {
-    let plan = plan_apply(contents, job, timestamp, args)?;
+    let plan = plan_apply(contents, stretch, job, timestamp, args)?;
     let moves = prepare(contents, &plan)?;
     give(contents, plan, moves)
 }
 
-/// Takes the changes of a range out of a member.
+/// Takes the changes of a range out of a member, where the stretch of the journal has them.
 pub fn remove_changes(
     contents: &mut Contents,
     job: u32,
     timestamp: u64,
     args: &JournaledChanges,
+    stretch: &Stretch,
 ) -> Result<Reply, Stop>
     requires running { IsTrue (is_running (job_at job contents.old.state.jobs)) }
-    ensures answers { Answers contents.old.state contents.new.state result (remove_changes contents.old.state.entries (memory_of contents.old.state) job timestamp args.now) }
+    ensures answers { (read : List Entry) → length read ≡ length contents.old.state.entries → AreNumbered (contents.old.state.gone + 1) read → IsStretchOf (contents.old.state.gone + 1) read stretch.now → Answers contents.old.state contents.new.state result (remove_changes read (memory_of contents.old.state) job timestamp args.now) }
 {
-    let plan = plan_remove(contents, job, timestamp, args)?;
+    let plan = plan_remove(contents, stretch, job, timestamp, args)?;
     let moves = prepare(contents, &plan)?;
     give(contents, plan, moves)
 }

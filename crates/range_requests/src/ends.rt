@@ -1,75 +1,71 @@
 //! The sequences that the ends of a range name.
-ghost use Rattle.std.specs.Prelude.{◌≡◌, ◌+◌, ◌<◌, ◌≤◌, ◌^◌, None, length};
+ghost use Rattle.std.specs.Prelude.{◌≡◌, ℕ, ◌+◌, ◌<◌, ◌^◌, List, None, IfSome, length, unwrap_or};
+ghost use Rattle.entry_codec.specs.declared.entries.Entry.{Entry};
 ghost use Rattle.journal_model.specs.Acts.{act, acts, is_number};
 ghost use Rattle.journal_model.specs.Ranges.{first_of, is_break};
 ghost use Rattle.library_steps.specs.JournalReads.{first_kept};
 ghost use Rattle.library_steps.specs.Ranges.{end_named};
 ghost use Rattle.library_steps.specs.State.{memory_of};
-ghost use Rattle.library_steps.specs.declared.limits.TheConstants.{LAST_SEQUENCE};
 ghost use Rattle.range_requests.specs.Ends.{behind_break};
+ghost use Rattle.range_requests.specs.Plans.{IsRead};
 
-use crate::kept::kept_entries;
 use entry_codec::{Entry, EntryKind};
+use journal_reads::Stretch;
 use library_model::requests::RangeEnd;
 use library_parts::Contents;
 
-/// The sequences of both ends of a range. The journal is read once at most.
-pub(crate) fn ends_named(
+/// The sequence of an end of a range, where the stretch tells it.
+pub(crate) fn end_named(
     contents: &Contents,
-    first: RangeEnd,
-    last: RangeEnd,
+    stretch: &Stretch,
+    end: RangeEnd,
     member: u32,
-) -> (u64, u64)
-    requires { (memory_of contents.now.state).last_entry ≤ LAST_SEQUENCE }
-    ensures first { result.0 ≡ end_named first member contents.now.state.entries (memory_of contents.now.state) }
-    ensures last { result.1 ≡ end_named last member contents.now.state.entries (memory_of contents.now.state) }
-{
-    let begin = end_named(contents, first, member);
-    match (first, last) {
-        (RangeEnd::First, RangeEnd::First) => (begin, begin),
-        (RangeEnd::Last | RangeEnd::Sequence(_), RangeEnd::First)
-        | (_, RangeEnd::Last | RangeEnd::Sequence(_)) => {
-            (begin, end_named(contents, last, member))
-        }
-    }
-}
-
-fn end_named(contents: &Contents, end: RangeEnd, member: u32) -> u64
-    requires { (memory_of contents.now.state).last_entry ≤ LAST_SEQUENCE }
-    ensures { result ≡ end_named end member contents.now.state.entries (memory_of contents.now.state) }
+) -> Option<u64>
+    ensures { (read : List Entry) → IsRead contents.now.state stretch.now read → IfSome result (λ named. named ≡ end_named end member read (memory_of contents.now.state)) }
 {
     match end {
-        RangeEnd::First => first_named(contents, member),
-        RangeEnd::Last => contents.bounds().1,
-        RangeEnd::Sequence(sequence) => sequence,
+        RangeEnd::First => first_named(contents, stretch, member),
+        RangeEnd::Last => Some(contents.bounds().1),
+        RangeEnd::Sequence(sequence) => Some(sequence),
     }
 }
 
-/// One past the last break of the member; where it has none, the first sequence that is kept.
-fn first_named(contents: &Contents, member: u32) -> u64
-    requires { (memory_of contents.now.state).last_entry ≤ LAST_SEQUENCE }
-    ensures { result ≡ first_of (first_kept (memory_of contents.now.state)) (acts member None contents.now.state.entries) }
+/// One past the last break of the member; where it has none, the first sequence that is kept. None where the stretch ends before the journal does, or has no
+/// break and begins later.
+fn first_named(contents: &Contents, stretch: &Stretch, member: u32) -> Option<u64>
+    ensures { (read : List Entry) → IsRead contents.now.state stretch.now read → IfSome result (λ first. first ≡ first_of (first_kept (memory_of contents.now.state)) (acts member None read)) }
 {
-    let (kept, _) = contents.bounds();
-    behind_break(kept_entries(contents), kept, member)
+    let (kept, last) = contents.bounds();
+    if !stretch.reaches(last) {
+        return None;
+    }
+    let begin = stretch.first();
+    if let Some(behind) = behind_break(stretch.entries(), begin, member) {
+        return Some(behind);
+    }
+    if begin == kept {
+        return Some(kept);
+    }
+    None
 }
 
-fn behind_break(entries: &[Entry], kept: u64, member: u32) -> u64
-    requires { kept + length entries.now < 2 ^ 64 }
-    ensures { result ≡ behind_break member kept kept entries.now }
+/// One past the last break of the member among entries of which the first has this sequence.
+fn behind_break(entries: &[Entry], first: u64, member: u32) -> Option<u64>
+    requires { first + length entries.now < 2 ^ 64 }
+    ensures { (now : ℕ) → behind_break member now first entries.now ≡ unwrap_or result now }
 {
     let mut left = entries.len();
     while left > 0 {
         left -= 1;
-        if is_break(&entries[left], member) {
-            return kept + left as u64 + 1;
+        if breaks(&entries[left], member) {
+            return Some(first + left as u64 + 1);
         }
     }
-    kept
+    None
 }
 
 /// Whether the entry breaks the member off.
-fn is_break(entry: &Entry, member: u32) -> bool
+pub fn breaks(entry: &Entry, member: u32) -> bool
     ensures { result ≡ is_break (act member None entry.now) }
 {
     if !is_of(entry, member) {

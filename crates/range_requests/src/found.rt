@@ -1,15 +1,17 @@
 //! The range that a request names, and the refusals of it.
-ghost use Rattle.std.specs.Prelude.{◌≡◌, ◌+◌, ◌≤◌, length, Ok, IfOk, OnOk};
+ghost use Rattle.std.specs.Prelude.{◌≡◌, ◌+◌, ◌≤◌, List, length, Ok, IfOk, OnOk};
+ghost use Rattle.entry_codec.specs.declared.entries.Entry.{Entry};
 ghost use Rattle.library_steps.specs.JournalReads.{are_kept, are_there};
 ghost use Rattle.library_steps.specs.Ranges.{range_named};
 ghost use Rattle.library_steps.specs.State.{memory_of};
 ghost use Rattle.library_steps.specs.Uses.{unused, user_of};
 ghost use Rattle.library_steps.specs.declared.limits.TheConstants.{LAST_SEQUENCE};
 ghost use Rattle.library_parts.specs.Answers.{Allows};
-ghost use Rattle.range_requests.specs.Plans.{Finds, IsKept};
+ghost use Rattle.range_requests.specs.Plans.{Finds, IsKept, IsRead};
 
-use crate::ends::ends_named;
+use crate::ends::end_named;
 use file_catalogue::File;
+use journal_reads::Stretch;
 use library_model::replies::Reply;
 use library_model::requests::{JournaledChanges, RangeEnd};
 use library_parts::{Contents, MemberFound, Stop, may_deposit};
@@ -26,11 +28,12 @@ pub(crate) struct Found<'a> {
 /// The member isn't used and is journaled, and the entries of the range are kept.
 pub(crate) fn range_named<'a>(
     contents: &'a Contents,
+    stretch: &Stretch,
     args: &JournaledChanges,
     first: RangeEnd,
     last: RangeEnd,
 ) -> Result<Found<'a>, Stop>
-    ensures found { Finds contents.now.state result (range_named args.now first last contents.now.state.entries (memory_of contents.now.state)) }
+    ensures found { (read : List Entry) → IsRead contents.now.state stretch.now read → Finds contents.now.state read result (range_named args.now first last read (memory_of contents.now.state)) }
     ensures kept { IfOk result (λ found. IsKept contents.now.state found) }
     ensures left { OnOk result ((memory_of contents.now.state).last_entry ≤ LAST_SEQUENCE) }
 {
@@ -41,7 +44,12 @@ pub(crate) fn range_named<'a>(
     if status.images().is_none() {
         return Err(Stop::Refused(Reply::NotJournaled { member }));
     }
-    let (first, last) = ends_named(contents, first, last, member);
+    let Some(first) = end_named(contents, stretch, first, member) else {
+        return Err(Stop::NoMemory);
+    };
+    let Some(last) = end_named(contents, stretch, last, member) else {
+        return Err(Stop::NoMemory);
+    };
     are_there(contents, first, last)?;
     are_kept(contents, first)?;
     Ok(Found {

@@ -1,21 +1,9 @@
-//! The entries that are kept, and the entry before some of them.
+//! The entry before some others.
 ghost use Rattle.std.specs.Prelude.{◌≡◌, ◌≤◌, length, take};
 ghost use Rattle.std.specs.Option.{option_copied};
 ghost use Rattle.journal_model.specs.Acts.{entry_before};
 
 use entry_codec::Entry;
-use library_parts::Contents;
-
-/// All entries that are kept.
-pub(crate) fn kept_entries(contents: &Contents) -> &[Entry]
-    ensures { result.now ≡ contents.now.state.entries }
-{
-    let (kept, last) = contents.bounds();
-    match contents.entries(kept, last) {
-        Ok(entries) => entries,
-        Err(_) => &[],
-    }
-}
 
 /// The entry before those behind the first so many.
 pub(crate) fn entry_before<'a>(

@@ -10,5 +10,8 @@ mod kept;
 mod plans;
 mod tells;
 mod walks;
+mod wanted;
 
 pub use commands::{apply_changes, remove_changes};
+pub use ends::breaks;
+pub use wanted::{RangeWanted, range_wanted};

@@ -1,5 +1,6 @@
 //! What a request does with a range, once none of its refusals holds.
-ghost use Rattle.std.specs.Prelude.{◌≡◌, ◌≤◌, IfOk, IfErr, IsSome, IsTrue, OnOk};
+ghost use Rattle.std.specs.Prelude.{◌≡◌, ◌≤◌, List, IfOk, IfErr, IfSome, IsSome, IsTrue, OnOk};
+ghost use Rattle.entry_codec.specs.declared.entries.Entry.{Entry};
 ghost use Rattle.member_slots.specs.Members.{member_at, member_of};
 ghost use Rattle.journal_model.specs.Ranges.{apply_range, remove_range};
 ghost use Rattle.library_model.specs.declared.replies.Reply.TheVariants.{LimitReached};
@@ -11,16 +12,16 @@ ghost use Rattle.library_parts.specs.Answers.{Allows};
 ghost use Rattle.library_parts.specs.declared.stop.Stop.TheVariants.{NoMemory, Refused};
 ghost use Rattle.range_images.specs.Given.{AreInPlace};
 ghost use Rattle.library_parts.specs.Given.{AddRecords, MayGive};
-ghost use Rattle.range_requests.specs.Plans.{GivesPlan, IsKept};
-ghost use Rattle.range_requests.specs.Steps.{IsReadOf, IsToldBy, IsFitWalk, IsWithin, WalksRange, limits, slots_of};
+ghost use Rattle.range_requests.specs.Plans.{GivesPlan, IsKept, IsRead};
+ghost use Rattle.range_requests.specs.Steps.{IsFrom, IsReadOf, IsToldBy, IsFitWalk, IsWithin, WalksRange, limits, slots_of};
 
 use crate::fits::check_fit;
 use crate::found::{Found, range_named};
-use crate::kept::{entry_before, kept_entries};
 use crate::tells::{Deed, Teller, Way, told};
 use crate::walks::{Walk, backward, forward};
 use entry_codec::{Draft, Entry};
 use given_changes::slots_after;
+use journal_reads::Stretch;
 use library_model::replies::{LimitKind, Reply};
 use library_model::requests::JournaledChanges;
 use library_parts::sizes::bytes_of;
@@ -47,17 +48,18 @@ struct Read<'a> {
 
 pub(crate) fn plan_apply(
     contents: &Contents,
+    stretch: &Stretch,
     job: u32,
     timestamp: u64,
     args: &JournaledChanges,
 ) -> Result<Plan, Stop>
     requires running { IsTrue (is_running (job_at job contents.now.state.jobs)) }
-    ensures plan { GivesPlan contents.now.state result (apply_plan contents.now.state.entries (memory_of contents.now.state) job timestamp args.now) }
+    ensures plan { (read : List Entry) → IsRead contents.now.state stretch.now read → GivesPlan contents.now.state result (apply_plan read (memory_of contents.now.state) job timestamp args.now) }
     ensures may { IfOk result (λ plan. MayGive contents.now.state plan.member plan.given.items) }
     ensures within { IfOk result (λ plan. IsWithin contents.now.state plan) }
 {
-    let found = range_named(contents, args, args.from, args.to)?;
-    let walk = walk_forward(contents, found)?;
+    let found = range_named(contents, stretch, args, args.from, args.to)?;
+    let walk = walk_forward(contents, stretch, found)?;
     check_walk(contents, found, &walk)?;
     let author = Author::of(contents, job, timestamp);
     let plan = planned(contents, author, found, walk, Way::Forward)?;
@@ -68,17 +70,18 @@ pub(crate) fn plan_apply(
 /// From the end that is named first back to the other.
 pub(crate) fn plan_remove(
     contents: &Contents,
+    stretch: &Stretch,
     job: u32,
     timestamp: u64,
     args: &JournaledChanges,
 ) -> Result<Plan, Stop>
     requires running { IsTrue (is_running (job_at job contents.now.state.jobs)) }
-    ensures plan { GivesPlan contents.now.state result (remove_plan contents.now.state.entries (memory_of contents.now.state) job timestamp args.now) }
+    ensures plan { (read : List Entry) → IsRead contents.now.state stretch.now read → GivesPlan contents.now.state result (remove_plan read (memory_of contents.now.state) job timestamp args.now) }
     ensures may { IfOk result (λ plan. MayGive contents.now.state plan.member plan.given.items) }
     ensures within { IfOk result (λ plan. IsWithin contents.now.state plan) }
 {
-    let found = range_named(contents, args, args.to, args.from)?;
-    let walk = walk_back(contents, found)?;
+    let found = range_named(contents, stretch, args, args.to, args.from)?;
+    let walk = walk_back(contents, stretch, found)?;
     check_walk(contents, found, &walk)?;
     let author = Author::of(contents, job, timestamp);
     let plan = planned(contents, author, found, walk, Way::Back)?;
@@ -86,23 +89,29 @@ pub(crate) fn plan_remove(
     Ok(plan)
 }
 
-fn walk_forward(contents: &Contents, found: Found) -> Result<Walk, Stop>
+fn walk_forward(contents: &Contents, stretch: &Stretch, found: Found) -> Result<Walk, Stop>
     requires kept { IsKept contents.now.state found }
-    ensures walked { WalksRange contents.now.state found.entry apply_range given_forward result }
+    ensures walked { (read : List Entry) → IsRead contents.now.state stretch.now read → WalksRange contents.now.state read found.entry apply_range given_forward result }
+    ensures places { IfOk result (λ walk. AreInPlace 1 walk.given.items (slots_of contents.now.state found.entry.member)) }
     ensures records { IfOk result (λ walk. AddRecords walk.given.items (slots_of contents.now.state found.entry.member)) }
 {
     let member = contents.member(found.member).unwrap();
-    let Read { prior, entries } = entries_read(contents, found);
+    let Some(Read { prior, entries }) = entries_read(contents, stretch, found) else {
+        return Err(Stop::NoMemory);
+    };
     forward(contents.alloc(), member, found.member, prior, entries)
 }
 
-fn walk_back(contents: &Contents, found: Found) -> Result<Walk, Stop>
+fn walk_back(contents: &Contents, stretch: &Stretch, found: Found) -> Result<Walk, Stop>
     requires kept { IsKept contents.now.state found }
-    ensures walked { WalksRange contents.now.state found.entry remove_range given_back result }
+    ensures walked { (read : List Entry) → IsRead contents.now.state stretch.now read → WalksRange contents.now.state read found.entry remove_range given_back result }
+    ensures places { IfOk result (λ walk. AreInPlace 1 walk.given.items (slots_of contents.now.state found.entry.member)) }
     ensures records { IfOk result (λ walk. AddRecords walk.given.items (slots_of contents.now.state found.entry.member)) }
 {
     let member = contents.member(found.member).unwrap();
-    let Read { prior, entries } = entries_read(contents, found);
+    let Some(Read { prior, entries }) = entries_read(contents, stretch, found) else {
+        return Err(Stop::NoMemory);
+    };
     backward(contents.alloc(), member, found.member, prior, entries)
 }
 
@@ -122,18 +131,28 @@ fn check_walk(contents: &Contents, found: Found, walk: &Walk) -> Result<(), Stop
     }
 }
 
-fn entries_read<'a>(contents: &'a Contents, found: Found) -> Read<'a>
-    requires { IsKept contents.now.state found }
-    ensures { IsReadOf contents.now.state found.entry result }
+/// None where the stretch lacks some of them, or the one before.
+fn entries_read<'a>(contents: &Contents, stretch: &'a Stretch, found: Found) -> Option<Read<'a>>
+    ensures read { (read : List Entry) → IsRead contents.now.state stretch.now read → IfSome result (λ shown. IsReadOf contents.now.state read found.entry shown) }
+    ensures from { IfSome result (λ shown. IsFrom found.entry shown) }
 {
     let (kept, _) = contents.bounds();
-    let all = kept_entries(contents);
-    let from = (found.first - kept) as usize;
-    let count = (found.last - found.first) as usize + 1;
-    Read {
-        prior: entry_before(None, all, from),
-        entries: &all[from..from + count],
+    let Some(entries) = stretch.between(found.first, found.last) else {
+        return None;
+    };
+    if found.first == kept {
+        return Some(Read {
+            prior: None,
+            entries,
+        });
     }
+    let Some(prior) = stretch.before(found.first) else {
+        return None;
+    };
+    Some(Read {
+        prior: Some(prior),
+        entries,
+    })
 }
 
 fn planned(

@@ -1,4 +1,3 @@
-use Rattle.library_steps.specs.State.{memory_of}
 use Rattle.journal_requests.proofs.ReceiverLemmas.{attached-answers}
 use Rattle.journal_requests.proofs.receivers.apply_attach.Goals as goal
 

@@ -9,17 +9,19 @@ use Rattle.range_requests.proofs.FoundLemmas.{is-journaled, named-goes}
 use Rattle.range_requests.proofs.found.range_named.Goals as goal
 
 pub returns-clause-found : goal.returns-clause-found
-returns-clause-found c =
+returns-clause-found c = λ read known.
     let s = c.args.contents.now.state in
     let m = memory_of s in
     let it : FoundMember = record { file = c.in_ok-file.field-0.file.now; status = c.in_ok-file.field-0.status } in
     let number = c.number-member.ensures in
-    let ends = c.ends_named-first in (
-      range_between it.status ends.result.0 ends.result.1 s.entries m,
-      named-goes s c.args.args.now c.args.first c.args.last it ends.result.0 ends.result.1 c.in_ok-may_deposit.ensures.allowed c.in_ok-file.ensures.found
+    let first = c.in-Some.first in
+    let last = c.in-Some-end_named.last in (
+      range_between it.status first last read m,
+      named-goes s read c.args.args.now c.args.first c.args.last it first last c.in_ok-may_deposit.ensures.allowed c.in_ok-file.ensures.found
           (subst (λ (n : ℕ). unused (user_of n m) ≡ Ok true) number c.in_ok-unused.ensures)
           (ap (λ (images : Option Images). is_none images) (sym c.images.ensures) ∙ is-journaled c.images.result c.is_none.result c.is_none.ensures c.if-is_none.false)
-          (ends.ensures.first ∙ ap (λ (n : ℕ). end_named c.args.first n s.entries m) number) (ends.ensures.last ∙ ap (λ (n : ℕ). end_named c.args.last n s.entries m) number)
+          (c.in-Some.ensures read known ∙ ap (λ (n : ℕ). end_named c.args.first n read m) number)
+          (c.in-Some-end_named.ensures read known ∙ ap (λ (n : ℕ). end_named c.args.last n read m) number)
           c.in_ok-are_there.ensures.allowed c.in_ok-are_kept.ensures.allowed,
       record { status = it.status; number = sym number; same = refl },
     )
