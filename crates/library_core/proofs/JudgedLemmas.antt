@@ -25,6 +25,9 @@ use Rattle.library_core.specs.Reads.{HasRead, IsReadOf}
 use Rattle.library_core.proofs.MemoryLemmas.{length-remembered}
 use Rattle.library_core.proofs.SpliceLemmas.{each-drop, each-take, read-spliced}
 
+pub held-of : (tells : Type 0) (disk : Disk) (book : BookState) (m s : State) → IsRemembered tells disk book m s → tells → IsHeld book disk
+held-of tells disk book m s is told = ∣ (s.entries, is.journaled.holds told) ∣₁
+
 -- what was judged
 pub record IsJudged (m : State) (from to : ℕ) (entries : List Entry) (result : Result EntriesFrom ChainFault) : Type 0 where
   pub stretch : IfOk result (λ stretch. stretch ≡ entries_from from entries)
@@ -111,21 +114,27 @@ module _ (tells : Type 0) (disk : Disk) (book : BookState) (m s : State) (from t
   first-book = omega (arith, kept, is.journaled.book_of.first)
 
   -- what the book gives no entries for
-  pub unread-cause : (new : Disk) (result : Result (List Entry) BookFault) (fault : BookFault) → result ≡ Err fault → (fault ≡ faults.NoMemory → ⊥)
+  pub unread-cause : {A : Type 0} (new : Disk) (result : Result A BookFault) (fault : BookFault) → result ≡ Err fault → (fault ≡ faults.NoMemory → ⊥)
       → (from ≤ to → 1 ≤ from → to ≤ last_of book → IsErrOf result faults.NoSuchEntry → ⊥)
       → (book.first ≤ from → (sequence : ℕ) → IsErrOf result (faults.ReceiverGone sequence) → ⊥)
       → ((sequence area at : ℕ) → IsErrOf result (faults.BlockChanged sequence area at) → tells → ⊥)
       → (IsErrOf result faults.StoreFault → Rose disk.faults new.faults) → Rose disk.faults new.faults ⊎ (tells → ⊥)
-  unread-cause new result faults.NoSuchEntry at other there gone whole cause =
-      absurd (there order (omega (arith, kept)) last-book (subst (λ (r : Result (List Entry) BookFault). IsErrOf r faults.NoSuchEntry) (sym at) refl))
-  unread-cause new result (faults.ReceiverGone sequence) at other there gone whole cause =
-      absurd (gone first-book sequence (subst (λ (r : Result (List Entry) BookFault). IsErrOf r (faults.ReceiverGone sequence)) (sym at) refl))
-  unread-cause new result faults.StoreFault at other there gone whole cause = inl (cause (subst (λ (r : Result (List Entry) BookFault). IsErrOf r faults.StoreFault) (sym at) refl))
-  unread-cause new result (faults.BlockChanged sequence area place) at other there gone whole cause =
-      inr (whole sequence area place (subst (λ (r : Result (List Entry) BookFault). IsErrOf r (faults.BlockChanged sequence area place)) (sym at) refl))
-  unread-cause new result faults.NoMemory at other there gone whole cause = absurd (other refl)
+  unread-cause {A = A} new result faults.NoSuchEntry at other there gone whole cause =
+      absurd (there order (omega (arith, kept)) last-book (subst (λ (r : Result A BookFault). IsErrOf r faults.NoSuchEntry) (sym at) refl))
+  unread-cause {A = A} new result (faults.ReceiverGone sequence) at other there gone whole cause =
+      absurd (gone first-book sequence (subst (λ (r : Result A BookFault). IsErrOf r (faults.ReceiverGone sequence)) (sym at) refl))
+  unread-cause {A = A} new result faults.StoreFault at other there gone whole cause = inl (cause (subst (λ (r : Result A BookFault). IsErrOf r faults.StoreFault) (sym at) refl))
+  unread-cause {A = A} new result (faults.BlockChanged sequence area place) at other there gone whole cause =
+      inr (whole sequence area place (subst (λ (r : Result A BookFault). IsErrOf r (faults.BlockChanged sequence area place)) (sym at) refl))
+  unread-cause {A = A} new result faults.NoMemory at other there gone whole cause = absurd (other refl)
 
 -- the store's fault, of those that a stretch may be wanting by
 pub fault-bad : (result : Result EntriesFrom ChainFault) → IsErrOf result StoreFault → IsErr result
 fault-bad (Ok stretch) is = absurd cc
 fault-bad (Err fault) is = refl
+
+-- the last sequence is far below the greatest that eight bytes hold
+pub few-entries : (tells : Type 0) (disk : Disk) (book : BookState) (m s : State) → IsRemembered tells disk book m s → (memory_of m).last_entry + 1 < 2 ^ 64
+few-entries tells disk book m s is =
+    let gone : m.gone ≡ s.gone = ap (λ (u : State). u.gone) is.memory in
+    omega (arith, gone, length-remembered m s is.memory, is.journaled.may.sequences.due, is.journaled.may.few)

@@ -22,11 +22,14 @@ each-drop P zero xs all = all
 each-drop P (suc n) [] all = tt
 each-drop P (suc n) (x ∷ xs) all = each-drop P n xs all.1
 
+drop-nil : (n : ℕ) → ◌≡◌ {A = List Entry} (drop n []) []
+drop-nil zero = refl
+drop-nil (suc n) = refl
+
 drop-both : (k n : ℕ) (xs : List Entry) → drop n (drop k xs) ≡ drop (k + n) xs
-drop-both zero n xs = refl
-drop-both (suc k) zero [] = refl
-drop-both (suc k) (suc n) [] = refl
-drop-both (suc k) n (x ∷ xs) = drop-both k n xs
+drop-both zero n xs = let same : n ≡ 0 + n = omega arith in ap (λ (j : ℕ). drop j xs) same
+drop-both (suc k) n [] = drop-nil n ∙ sym (drop-nil (suc k + n))
+drop-both (suc k) n (x ∷ xs) = let same : suc (k + n) ≡ suc k + n = omega arith in drop-both k n xs ∙ ap (λ (j : ℕ). drop j (x ∷ xs)) same
 
 module _ (s : State) (from : ℕ) (entries : List Entry) (sound : IsSound s) (kept : s.gone + 1 ≤ from) (fits : from + length entries ≤ s.gone + length s.entries + 1)
     (numbered : AreNumbered from entries) (told : AllByRecursion (IsTold s.files) entries) where

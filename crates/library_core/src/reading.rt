@@ -104,8 +104,20 @@ fn read_between<S: Store>(
 {
     match journal.entries(contents.alloc(), store, from, to) {
         Ok(entries) => judged(contents, from, to, entries),
-        Err(BookFault::NoMemory) => Err(ChainFault::NoMemory),
-        Err(_) => Err(ChainFault::StoreFault),
+        Err(fault) => Err(fault_of(fault)),
+    }
+}
+
+/// Want of memory, or the store's fault: the sequences are there, and a store that tells of its bytes changes no block.
+fn fault_of(fault: BookFault) -> ChainFault
+    ensures { result ≡ ChainFault.StoreFault → fault ≡ BookFault.NoMemory → ⊥ }
+{
+    match fault {
+        BookFault::NoMemory => ChainFault::NoMemory,
+        BookFault::NoSuchEntry
+        | BookFault::ReceiverGone { .. }
+        | BookFault::StoreFault
+        | BookFault::BlockChanged { .. } => ChainFault::StoreFault,
     }
 }
 
