@@ -138,3 +138,6 @@ pub few-entries : (tells : Type 0) (disk : Disk) (book : BookState) (m s : State
 few-entries tells disk book m s is =
     let gone : m.gone ≡ s.gone = ap (λ (u : State). u.gone) is.memory in
     omega (arith, gone, length-remembered m s is.memory, is.journaled.may.sequences.due, is.journaled.may.few)
+
+pub err-same : {T : Type 0} (a b : ChainFault) → IsErrOf {T = T} {E = ChainFault} (Err a) b → a ≡ b
+err-same a b is = cc

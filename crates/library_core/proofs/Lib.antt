@@ -29,3 +29,4 @@ pub mod ReadLemmas
 pub mod SameLemmas
 pub mod SpliceLemmas
 pub mod JudgedLemmas
+pub mod OwnedLemmas

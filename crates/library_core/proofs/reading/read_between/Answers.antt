@@ -1,5 +1,5 @@
 use Rattle.std.proofs.Common.{inr}
-use Rattle.library_core.proofs.JudgedLemmas.{IsJudged, fault-bad, held-of, judged-cause, judged-read, unread-cause}
+use Rattle.library_core.proofs.JudgedLemmas.{IsJudged, err-same, fault-bad, held-of, judged-cause, judged-read, unread-cause}
 use Rattle.library_core.proofs.reading.read_between.Goals as goal
 
 pub entries-requires : goal.entries-requires
@@ -35,5 +35,5 @@ returns-in-Ok-clause-cause g c = λ bad.
 pub returns-in-Err-clause-cause : goal.returns-in-Err-clause-cause
 returns-in-Err-clause-cause g c = λ bad.
     unread-cause g.S.Store.tells (g.S.Store.disk c.args.store.now) c.args.journal.now c.args.contents.now.state c.requires.kept.0 c.args.from c.args.to c.requires.kept.1 c.requires.first c.requires.order
-    c.requires.last (g.S.Store.disk c.entries.new.store) c.entries.result c.in-Err.fault c.in-Err.is (c.fault_of.ensures bad) c.entries.ensures.there c.entries.ensures.kept
+    c.requires.last (g.S.Store.disk c.entries.new.store) c.entries.result c.in-Err.fault c.in-Err.is (c.fault_of.ensures (err-same _ _ bad)) c.entries.ensures.there c.entries.ensures.kept
     c.entries.ensures.whole c.entries.ensures.cause
