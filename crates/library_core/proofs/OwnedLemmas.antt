@@ -3,7 +3,7 @@ use Rattle.std.proofs.Common.{◌≡◌, ℕ, ◌+◌, Bool, true, false, cond, 
 use Rattle.std.specs.List.{IsDistinct}
 use Rattle.std.specs.Map.{keys_of}
 use Rattle.std.specs.Borrow.{Bor}
-use Rattle.std.specs.Option.{is_none, option_and_then, option_copied, option_map}
+use Rattle.std.specs.Option.{is_some, option_and_then, option_copied, option_map}
 use Rattle.std.proofs.lemmas.List.{take-append-drop}
 use Rattle.field_values.specs.FirstBad.{TellsFirstBad}
 use Rattle.std.specs.Prelude.{IfSome}
@@ -76,6 +76,6 @@ some-owned files number None is = tt
 some-owned files number (Some x) is = is
 
 -- bytes that aren't a record's have a first bad one, with which no record begins
-pub bad-record : (test : List ℕ → Bool) (bytes : List ℕ) (at : Option ℕ) → TellsFirstBad test bytes at → is_none at ≡ false → test bytes ≡ true → ⊥
+pub bad-record : (test : List ℕ → Bool) (bytes : List ℕ) (at : Option ℕ) → TellsFirstBad test bytes at → is_some at ≡ true → test bytes ≡ true → ⊥
 bad-record test bytes None tells some good = absurd cc
 bad-record test bytes (Some at) tells some good = tells.bad (drop (at + 1) bytes) (subst (λ (l : List ℕ). test l ≡ true) (sym (take-append-drop (at + 1) bytes)) good)
