@@ -1,5 +1,5 @@
 -- A journal that was read before a call was done: the store has stayed, so that what the call made of it then it has made of it since the reading began.
-use Rattle.std.proofs.Common.{◌≡◌, ◌≤◌, ◌+◌, inl, inr, ℕ, Bool, List, [], length, Result, Ok, refl, sym, ◌∙◌, ap, subst, arith}
+use Rattle.std.proofs.Common.{◌≡◌, ◌≤◌, ◌+◌, ◌⊎◌, inl, inr, ℕ, Bool, true, List, [], length, Result, Ok, refl, sym, ◌∙◌, ap, subst, arith}
 use Rattle.store_model.specs.Disk.{Areas, Disk, Leaves, Stays}
 use Rattle.store_model.specs.Faults.{Rose}
 use Rattle.store_model.proofs.Runs.{leaves_now, leaves_stays, leaves_then}
@@ -21,7 +21,7 @@ use Rattle.library_parts.specs.Remembered.{remembered}
 use Rattle.kept_library.specs.Journaled.{IsJournaled, IsRemembered}
 use Rattle.kept_library.specs.Stands.{whole_from}
 use Rattle.library_core.specs.Puts.{HasCome, HasPut, IsAtFault, entries_reading}
-use Rattle.library_core.specs.Reads.{HasRead, IsReadOf}
+use Rattle.library_core.specs.Reads.{HasRead, IsReadOf, reads_journal}
 use Rattle.library_core.proofs.JournalLemmas.{moment-still}
 use Rattle.library_core.proofs.MemoryLemmas.{length-remembered}
 
@@ -94,3 +94,13 @@ pub nothing-has : (tells : Type 0) (m s : State) (stretch : EntriesFrom) → m �
 nothing-has tells m s stretch memory sound is =
     let same : m.gone ≡ s.gone = ap (λ (u : State). u.gone) memory in
     (s.entries, subst (λ (x : EntriesFrom). IsReadOf tells s x s.entries) (sym is) (none-read tells s (m.gone + 1) sound (omega (arith, same))))
+
+-- the store's fault, where it has stayed before
+pub cause-behind : (tells : Type 0) (old mid new : Disk) → Stays old mid → Rose mid.faults new.faults ⊎ (tells → ⊥) → Rose old.faults new.faults ⊎ (tells → ⊥)
+cause-behind tells old mid new stays (inl rose) = inl (rose-behind old.faults mid.faults new.faults stays.later.faults rose)
+cause-behind tells old mid new stays (inr other) = inr other
+
+-- and where a request reads the journal
+pub at-fault : (tells : Type 0) (old new : Disk) (r : Request) → reads_journal r ≡ true → Rose old.faults new.faults ⊎ (tells → ⊥) → IsAtFault tells old new r
+at-fault tells old new r reads (inl rose) = inl rose
+at-fault tells old new r reads (inr other) = inr (reads, other)
