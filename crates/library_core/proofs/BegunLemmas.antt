@@ -1,5 +1,5 @@
 -- A sound library is sound once one more job has begun, which has done nothing.
-use Rattle.std.proofs.Common.{◌≡◌, ◌⊎◌, inl, inr, ℕ, zero, suc, ◌+◌, ◌-◌, ◌==◌, Bool, true, false, if◌then◌else◌, Option, Some, None, IsSome, List, [], ◌∷◌, ◌++◌, slice_get, refl, sym, subst}
+use Rattle.std.proofs.Common.{◌≡◌, ◌⊎◌, inl, inr, ℕ, zero, suc, ◌+◌, ◌-◌, ◌==◌, true, false, if◌then◌else◌, Option, Some, None, IsSome, List, [], ◌∷◌, ◌++◌, slice_get, refl, sym, subst}
 use Rattle.std.specs.List.{AllByRecursion}
 use Rattle.lock_table.specs.declared.lock.Lock.{Lock}
 use Rattle.lawful_states.proofs.LawfulLemmas.{AllByRecursion-append, AreOne-new_job}

@@ -2,7 +2,7 @@
 use Rattle.std.proofs.Common.{◌≡◌, ◌≤◌, inl, refl, ℕ, ◌+◌, ◌*◌, List, ◌∷◌, [], ◌++◌, length, take, length-append, Result, Ok, Err, OnOk, sym, ◌∙◌, ap, subst, arith}
 use Rattle.std.specs.Prelude.{OnErr}
 use Rattle.std.proofs.lemmas.List.{take-append-le}
-use Rattle.store_model.specs.Disk.{Areas, Disk, Leaves, May}
+use Rattle.store_model.specs.Disk.{Disk, Leaves}
 use Rattle.store_model.proofs.Runs.{leaves_stays}
 use Rattle.entry_codec.specs.declared.entries.Entry.{Entry}
 use Rattle.gated_log.specs.Log.{LogState}

@@ -1,8 +1,7 @@
 -- What was read and judged is a part of what may be read of the journal; and over a store that tells, nothing is judged otherwise.
-use Rattle.std.proofs.Common.{◌≡◌, ◌≤◌, ◌<◌, ◌⊎◌, inl, inr, ℕ, zero, suc, ◌+◌, ◌-◌, ◌*◌, ◌^◌, List, [], ◌∷◌, ◌++◌, length, take, drop, Result, Ok, Err, OnOk, IfOk, refl, sym, ◌∙◌, ap, subst, arith}
+use Rattle.std.proofs.Common.{◌≡◌, ◌≤◌, ◌<◌, ◌⊎◌, inl, inr, ℕ, ◌+◌, ◌-◌, ◌^◌, List, length, take, drop, Result, Ok, Err, OnOk, IfOk, refl, sym, ◌∙◌, ap, subst, arith}
 use Rattle.std.specs.List.{AllByRecursion}
 use Rattle.std.specs.Prelude.{IsErr, IsErrOf}
-use Rattle.std.proofs.lemmas.Bool.{false≢true}
 use Rattle.std.proofs.lemmas.List.{length-drop, length-take-le, take-append-drop}
 use Rattle.store_model.specs.Disk.{Disk}
 use Rattle.store_model.specs.Faults.{Rose}
@@ -16,9 +15,7 @@ use Rattle.journal_book.specs.declared.fault.BookFault.TheVariants as faults
 use Rattle.journal_book.proofs.Numbering.{numbered_back, numbered_front}
 use Rattle.journal_model.specs.Journal.{AreNumbered}
 use Rattle.journal_reads.specs.Stretches.{EntriesFrom, entries_from}
-use Rattle.library_parts.specs.Remembered.{remembered}
 use Rattle.library_steps.specs.State.{State, memory_of}
-use Rattle.joint_state.specs.Sound.{IsSound}
 use Rattle.joint_state.specs.Told.{IsTold}
 use Rattle.kept_library.specs.Journaled.{IsRemembered}
 use Rattle.library_core.specs.Reads.{HasRead, IsReadOf}

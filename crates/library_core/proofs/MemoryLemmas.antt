@@ -1,5 +1,5 @@
 -- What is remembered of a library's state: what it says of the state, and what a request leaves of it.
-use Rattle.std.proofs.Common.{◌≡◌, ℕ, zero, suc, ◌+◌, ◌-◌, ◌≤◌, Bool, true, false, not, cond, Option, Some, None, List, [], ◌∷◌, ◌++◌, length, drop, length-append, Result, Ok, Err, IsTrue, refl, sym, ◌∙◌, ap, subst, arith}
+use Rattle.std.proofs.Common.{◌≡◌, ℕ, zero, suc, ◌+◌, ◌-◌, Bool, false, not, cond, Option, Some, None, List, [], ◌∷◌, ◌++◌, length, drop, length-append, Result, IsTrue, refl, sym, ◌∙◌, ap, subst, arith}
 use Rattle.std.specs.List.{AllByRecursion}
 use Rattle.std.proofs.lemmas.List.{length-drop}
 use Rattle.entry_codec.specs.declared.entries.Entry.{Entry}
@@ -11,7 +11,7 @@ use Rattle.entry_codec.specs.declared.kinds.EntryKind.TheVariants.{CommitmentEnd
 use Rattle.entry_codec.specs.Placing.{is_placed_at, place}
 use Rattle.entry_codec.specs.Spelling.{HasSpelling}
 use Rattle.journal_model.specs.Journal.{AreNumbered}
-use Rattle.memory_journal.specs.Blanks.{blanks, in_memory, is_blank, starts_none}
+use Rattle.memory_journal.specs.Blanks.{blanks, in_memory, starts_none}
 use Rattle.memory_journal.proofs.BlankLemmas.{length-blanks, memory-behind}
 use Rattle.library_model.specs.declared.replies.Reply.{Reply}
 use Rattle.library_model.specs.declared.requests.Request.{Request}

@@ -1,6 +1,6 @@
 -- A journal that was read before a call was done: the store has stayed, so that what the call made of it then it has made of it since the reading began.
 use Rattle.std.proofs.Common.{◌≡◌, ◌≤◌, ◌+◌, ◌⊎◌, inl, inr, ℕ, Bool, true, List, [], length, Result, Ok, refl, sym, ◌∙◌, ap, subst, arith}
-use Rattle.store_model.specs.Disk.{Areas, Disk, Leaves, Stays}
+use Rattle.store_model.specs.Disk.{Disk, Stays}
 use Rattle.store_model.specs.Faults.{Rose}
 use Rattle.store_model.proofs.Runs.{leaves_now, leaves_stays, leaves_then}
 use Rattle.entry_codec.specs.declared.entries.Entry.{Entry}

@@ -5,10 +5,10 @@ use Rattle.std.proofs.lemmas.List.{drop_at, length-drop, length-take-le, take-ap
 use Rattle.entry_codec.specs.declared.entries.Entry.{Entry}
 use Rattle.journal_book.proofs.Numbering.{numbered-append, numbered_back, numbered_front}
 use Rattle.journal_model.specs.Journal.{AreNumbered}
-use Rattle.journal_reads.specs.Stretches.{IsStretchOf, entries_from}
+use Rattle.journal_reads.specs.Stretches.{entries_from}
 use Rattle.lawful_states.proofs.LawfulLemmas.{AllByRecursion-append}
 use Rattle.library_steps.specs.State.{State}
-use Rattle.joint_state.specs.Sound.{IsSound, MayBeRead}
+use Rattle.joint_state.specs.Sound.{IsSound}
 use Rattle.joint_state.specs.Told.{IsTold}
 use Rattle.library_core.specs.Reads.{IsReadOf}
 

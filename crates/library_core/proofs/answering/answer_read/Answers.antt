@@ -1,4 +1,4 @@
-use Rattle.std.proofs.Common.{◌≡◌, ◌≤◌, ◌+◌, ◌*◌, Bool, true, false, length, refl, sym, ◌∙◌, ap, subst, arith}
+use Rattle.std.proofs.Common.{◌≡◌, ◌≤◌, ◌+◌, ◌*◌, Bool, true, false, length, sym, ◌∙◌, ap, subst, arith}
 use Rattle.store_model.specs.Disk.{Disk}
 use Rattle.library_model.specs.NeedsMemory.{needs_memory}
 use Rattle.library_model.specs.declared.replies.Reply.{Reply}

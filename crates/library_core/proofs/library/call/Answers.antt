@@ -1,4 +1,4 @@
-use Rattle.std.proofs.Common.{◌≡◌, ◌∙◌, false, ap, sym, subst}
+use Rattle.std.proofs.Common.{◌∙◌, ap, sym, subst}
 use Rattle.library_model.specs.declared.calls.Call.{Call}
 use Rattle.kept_library.specs.Parts.{LibraryOver}
 use Rattle.kept_library.specs.Stands.{IsReady}
