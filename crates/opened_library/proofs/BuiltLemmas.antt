@@ -1,5 +1,5 @@
 -- A library that is built of a restarted journal's entries stands over that journal.
-use Rattle.std.proofs.Common.{◌≡◌, ◌≤◌, ◌<◌, ◌+◌, ◌∙◌, ℕ, Result, IfOk, List, [], length, take, refl, sym, ap, subst, arith}
+use Rattle.std.proofs.Common.{◌≡◌, ◌≤◌, ◌<◌, ◌+◌, ◌∙◌, ℕ, Result, IfOk, List, [], length, take, sym, ap, subst, arith}
 use Rattle.std.proofs.lemmas.List.{take_all}
 use Rattle.store_model.specs.Disk.{Areas, Disk, May}
 use Rattle.entry_codec.specs.declared.entries.Entry.{Entry}

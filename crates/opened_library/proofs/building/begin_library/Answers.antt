@@ -17,11 +17,12 @@ may_deposit-requires-clause-unsaved g c = none-saved c.args.contents.state (atta
 pub over-requires : goal.over-requires
 over-requires g c =
     let few : library_bytes c.args.contents.state.members ≤ MOST_LIBRARY_BYTES = omega (arith, c.member_bytes-bytes.ensures.value, c.member_bytes-bytes.ensures.few) in
-    let s : State = library_left (λ _. 0) (attached_of c.args.journal.chain) (journal_with c.args.entries.now) in
-    (s,
-    is-remembered c.args.contents.state s (attached_of c.args.journal.chain) c.args.entries.now refl c.requires.left few c.requires.sound g.S.Store.tells (g.S.Store.disk c.args.store)
-    c.args.journal refl c.requires.held (c.if-not-stands_behind.ensures.first refl) (c.if-not-stands_behind.ensures.last refl) (c.if-not-stands_behind.ensures.little refl) c.requires.receiver
-    (c.if-not-may_deposit.ensures refl))
+    let s : State = library_left (λ _. 0) (attached_of c.args.journal.chain) (journal_with c.args.entries.now) in (
+      s,
+      is-remembered c.args.contents.state s (attached_of c.args.journal.chain) c.args.entries.now refl c.requires.left few c.requires.sound g.S.Store.tells (g.S.Store.disk c.args.store)
+          c.args.journal refl c.requires.held (c.if-not-stands_behind.ensures.first refl) (c.if-not-stands_behind.ensures.last refl) (c.if-not-stands_behind.ensures.little refl) c.requires.receiver
+          (c.if-not-may_deposit.ensures refl),
+    )
 
 pub returns-clause-built : goal.returns-clause-built
 returns-clause-built g c =
