@@ -19,7 +19,7 @@ use Rattle.library_steps.specs.State.{State}
 use Rattle.library_steps.specs.Ranges.{library_bytes}
 use Rattle.joint_state.specs.Sound.{IsSound}
 use Rattle.kept_library.specs.Parts.{LibraryOver}
-use Rattle.opened_library.specs.Opened.{IsAtRest, IsBuilt, IsNotOpened, IsOpenedLibrary, Restarts}
+use Rattle.opened_library.specs.Opened.{IsAtRest, IsBuilt, IsNotOpened, IsOpenedLibrary, IsSoundWithin, Restarts}
 
 -- a restart by this job at this time is what the definitions call one
 pub restarts-by : (tells : Type 0) (old new : Disk) (job : Option (List ℕ)) (moment : ℕ) → job ≡ restart_job → moment ≡ 0
@@ -45,24 +45,33 @@ abbrev AreSound : Type 0
 AreSound = (entries : List Entry) (attached moment : ℕ) → CanReplayJournal descriptions (journal_with entries) → AreDeposited entries
     → library_bytes (library_restarted (λ _. 0) attached moment (journal_with entries)).members ≤ MOST_LIBRARY_BYTES → IsSound (library_restarted (λ _. 0) attached moment (journal_with entries))
 
-pub opened : {S : Type 0} (law : AreSound) (tells : Type 0) (disk : S → Disk) (old : Disk) (store : S) (library : LibraryOver S) (book : BookState) (entries : List Entry) (s : Standing)
-    → library.store ≡ store → IsRestarted descriptions tells old (disk store) restart_job 0 book entries s → Restarts tells old (disk store) → old.faults ≤ (disk store).faults
-    → (tells → (areas : Areas) → May (disk store) areas → SpellJournal descriptions entries areas) → IsBuilt tells (disk store) entries library
-    → IsOpenedLibrary tells old (disk library.store) library
-opened {S = S} law tells disk old store library book entries s same restarted restarts rose stays built =
+-- what a restart's entries leave is sound, where its members are within the bytes that a library may have
+pub sound-within : (law : AreSound) (tells : Type 0) (old disk : Disk) (book : BookState) (entries : List Entry) (s : Standing) (attached : ℕ)
+    → IsRestarted descriptions tells old disk restart_job 0 book entries s → IsSoundWithin (library_left (λ _. 0) attached (journal_with entries))
+sound-within law tells old disk book entries s attached restarted = λ few.
     let before = restarted.before in
-    let is : library.state ≡ library_restarted (λ _. 0) built.attached 0 (journal_with before) =
+    let is : library_left (λ _. 0) attached (journal_with entries) ≡ library_restarted (λ _. 0) attached 0 (journal_with before) =
+    ap (λ (all : List Entry). library_left (λ _. 0) attached (journal_with all)) restarted.ended.ended in
+    subst IsSound (sym is) (law before attached 0 restarted.replays restarted.deposited (subst (λ (t : State). library_bytes t.members ≤ MOST_LIBRARY_BYTES) is few))
+
+pub opened : {S : Type 0} (tells : Type 0) (disk : S → Disk) (old : Disk) (store : S) (library : LibraryOver S) (book : BookState) (entries : List Entry) (s : Standing)
+    → library.store ≡ store → IsRestarted descriptions tells old (disk store) restart_job 0 book entries s → Restarts tells old (disk store) → old.faults ≤ (disk store).faults
+    → (tells → (areas : Areas) → May (disk store) areas → SpellJournal descriptions entries areas) → IsBuilt tells disk entries library
+    → IsOpenedLibrary tells disk old (disk library.store) library
+opened {S = S} tells disk old store library book entries s same restarted restarts rose stays built =
+    let before = restarted.before in
+    let is : built.s ≡ library_restarted (λ _. 0) built.attached 0 (journal_with before) =
     built.state ∙ ap (λ (all : List Entry). library_left (λ _. 0) built.attached (journal_with all)) restarted.ended.ended in
     record {
+      s = built.s;
+      stands = built.stands;
       before = before;
       from = record { replays = restarted.replays; deposited = restarted.deposited; spelled = restarted.spelled; attached = built.attached; left = is };
       restart = subst (λ (it : S). Restarts tells old (disk it)) (sym same) restarts;
-      sound = subst IsSound (sym is) (law before built.attached 0 restarted.replays restarted.deposited (subst (λ (t : State). library_bytes t.members ≤ MOST_LIBRARY_BYTES) is built.few));
       none = ap (λ (t : State). t.jobs) is;
-      alive = built.alive;
       all = built.all;
       receiver = built.receiver;
-      left = λ told areas may. built.left told areas (subst (λ (it : S). May (disk it) areas) same may);
+      left = built.left;
       durable = λ told areas may.
           subst (λ (all : List Entry). SpellJournal descriptions all areas) (sym (ap (λ (t : State). t.entries) built.state))
           (stays told areas (subst (λ (it : S). May (disk it) areas) same may));
@@ -70,14 +79,14 @@ opened {S = S} law tells disk old store library book entries s same restarted re
     }
 
 -- the same of whatever was answered
-pub if-opened : {S E : Type 0} (law : AreSound) (tells : Type 0) (disk : S → Disk) (old : Disk) (store : S) (book : BookState) (entries : List Entry) (s : Standing)
+pub if-opened : {S E : Type 0} (tells : Type 0) (disk : S → Disk) (old : Disk) (store : S) (book : BookState) (entries : List Entry) (s : Standing)
     (r : Result (LibraryOver S) E) → IsRestarted descriptions tells old (disk store) restart_job 0 book entries s → Restarts tells old (disk store) → old.faults ≤ (disk store).faults
     → (tells → (areas : Areas) → May (disk store) areas → SpellJournal descriptions entries areas)
-    → IfOk r (λ library. IsBuilt tells (disk store) entries library) → IfOk r (λ library. library.store ≡ store)
-    → IfOk r (λ library. IsOpenedLibrary tells old (disk library.store) library)
-if-opened law tells disk old store book entries s (Ok library) restarted restarts rose stays built same =
-    opened law tells disk old store library book entries s same restarted restarts rose stays built
-if-opened law tells disk old store book entries s (Err e) restarted restarts rose stays built same = tt
+    → IfOk r (λ library. IsBuilt tells disk entries library) → IfOk r (λ library. library.store ≡ store)
+    → IfOk r (λ library. IsOpenedLibrary tells disk old (disk library.store) library)
+if-opened tells disk old store book entries s (Ok library) restarted restarts rose stays built same =
+    opened tells disk old store library book entries s same restarted restarts rose stays built
+if-opened tells disk old store book entries s (Err e) restarted restarts rose stays built same = tt
 
 -- ---- refusals
 

@@ -1,5 +1,5 @@
 -- Which library is one that was opened, and what may a stop leave of its store meanwhile? (Journal Management, "Recovery operations using journaling".)
-use Rattle.std.specs.Prelude.{◌≡◌, ◌≢◌, ◌≤◌, ℕ, false, List, [], length}
+use Rattle.std.specs.Prelude.{◌≡◌, ◌≢◌, ◌≤◌, ℕ, List, [], length}
 use Rattle.store_model.specs.Disk.{Areas, Disk, Leaves, May, Stays}
 use Rattle.store_model.specs.Faults.{Rose}
 use Rattle.entry_codec.specs.declared.entries.Entry.{Entry}
@@ -21,6 +21,7 @@ use Rattle.library_steps.specs.State.{State}
 use Rattle.library_steps.specs.Ranges.{library_bytes}
 use Rattle.joint_state.specs.Sound.{IsSound}
 use Rattle.kept_library.specs.Parts.{LibraryOver}
+use Rattle.kept_library.specs.Stands.{Stands}
 
 -- the store spelled these entries, and the state is what they leave once a restart has ended them
 pub record IsOpenedFrom (tells : Type 0) (old : Disk) (before : List Entry) (s : State) : Type 0 where
@@ -34,18 +35,19 @@ pub record IsOpenedFrom (tells : Type 0) (old : Disk) (before : List Entry) (s :
 abbrev pub Restarts : (tells : Type 0) (old new : Disk) → Type 0
 Restarts tells old new = tells → (before : List Entry) → SpellJournal descriptions before old.seen → Leaves old new (MayRestart descriptions old restart_job 0 before)
 
--- a library that was opened: its state, which is sound, and all of its journal is on the disk, where a stop leaves it with its roots
-pub record IsOpenedLibrary {S : Type 0} (tells : Type 0) (old new : Disk) (library : LibraryOver S) : Type 0 where
+-- a library that was opened: its state, which is sound, of which the memory has all but the journal's entries, and all of its journal is on the disk, where a
+-- stop leaves it with its roots
+pub record IsOpenedLibrary {S : Type 0} (tells : Type 0) (disk : S → Disk) (old new : Disk) (library : LibraryOver S) : Type 0 where
+  pub s : State
+  pub stands : Stands tells disk library s
   pub before : List Entry
-  pub from : IsOpenedFrom tells old before library.state
+  pub from : IsOpenedFrom tells old before s
   pub restart : Restarts tells old new
-  pub sound : IsSound library.state
-  pub none : library.state.jobs ≡ []
-  pub alive : library.failed ≡ false
-  pub all : library.book.forced ≡ length library.state.entries
+  pub none : s.jobs ≡ []
+  pub all : library.book.forced ≡ length s.entries
   pub receiver : library.book.chain.first ≡ FIRST_RECEIVER
-  pub left : tells → (areas : Areas) → May new areas → SpellEntries FIRST_RECEIVER library.state.entries areas
-  pub durable : tells → (areas : Areas) → May new areas → SpellJournal descriptions library.state.entries areas
+  pub left : tells → (areas : Areas) → May new areas → SpellEntries FIRST_RECEIVER s.entries areas
+  pub durable : tells → (areas : Areas) → May new areas → SpellJournal descriptions s.entries areas
   pub faults : old.faults ≤ new.faults
 
 -- why a store was not opened: none of its areas was written where its bytes are the cause
@@ -65,12 +67,17 @@ pub record IsAtRest (tells : Type 0) (disk : Disk) (book : BookState) (entries :
   pub receiver : book.chain.first ≡ FIRST_RECEIVER
   pub left : IsLeftBy descriptions entries s
 
--- the library is what these entries leave, with all of them on the disk
-pub record IsBuilt {S : Type 0} (tells : Type 0) (disk : Disk) (entries : List Entry) (library : LibraryOver S) : Type 0 where
+-- where the members are within the bytes that a library may have, the state is sound
+abbrev pub IsSoundWithin : State → Type 0
+IsSoundWithin s = library_bytes s.members ≤ MOST_LIBRARY_BYTES → IsSound s
+
+-- the library's state is what these entries leave, with all of them on the disk
+pub record IsBuilt {S : Type 0} (tells : Type 0) (disk : S → Disk) (entries : List Entry) (library : LibraryOver S) : Type 0 where
+  pub s : State
   pub attached : ℕ
-  pub state : library.state ≡ library_left (λ _. 0) attached (journal_with entries)
-  pub few : library_bytes library.state.members ≤ MOST_LIBRARY_BYTES
-  pub alive : library.failed ≡ false
-  pub all : library.book.forced ≡ length library.state.entries
+  pub state : s ≡ library_left (λ _. 0) attached (journal_with entries)
+  pub stands : Stands tells disk library s
+  pub few : library_bytes s.members ≤ MOST_LIBRARY_BYTES
+  pub all : library.book.forced ≡ length s.entries
   pub receiver : library.book.chain.first ≡ FIRST_RECEIVER
-  pub left : tells → (areas : Areas) → May disk areas → SpellEntries FIRST_RECEIVER library.state.entries areas
+  pub left : tells → (areas : Areas) → May (disk library.store) areas → SpellEntries FIRST_RECEIVER s.entries areas

@@ -5,26 +5,30 @@ ghost use Rattle.receiver_chain.specs.Chain.{attached_of};
 ghost use Rattle.journal_book.specs.Book.{Holds, last_of};
 ghost use Rattle.kept_journal.specs.declared.journal.TheConstants.{MUCH};
 ghost use Rattle.restart_model.specs.Libraries.{journal_with, library_left};
-ghost use Rattle.opened_library.specs.Opened.{IsAtRest, IsBuilt};
+ghost use Rattle.library_parts.specs.Remembered.{remembered};
+ghost use Rattle.opened_library.specs.Opened.{IsAtRest, IsBuilt, IsSoundWithin};
 
 use crate::judging::may_deposit;
+use entry_codec::Entry;
 use journal_opening::OpenFault;
 use kept_journal::KeptJournal;
 use kept_library::KeptLibrary;
 use library_parts::Contents;
+use replay_step::Replay;
 use restarted_journal::RestartedJournal;
 use restarted_library::restarted_contents;
 use std::alloc::Global;
 use store_model::Store;
 
-/// The library that a journal's entries leave, over the store that holds them. The store is not called.
+/// The library that a journal's entries leave, over the store that holds them: of the entries nothing stays in memory. The store is not called.
 pub(crate) fn build_library<S: Store>(
     alloc: Global,
     store: S,
     restarted: RestartedJournal,
 ) -> Result<KeptLibrary<S>, (OpenFault, S)>
-    requires { IsAtRest S.tells (S.disk store) restarted.journal restarted.entries.items restarted.replay }
-    ensures built { IfOk result (λ library. IsBuilt S.tells (S.disk store) restarted.entries.items library) }
+    requires rest { IsAtRest S.tells (S.disk store) restarted.journal restarted.entries.items restarted.replay }
+    requires sound { IsSoundWithin (library_left (λ _. 0) (attached_of restarted.journal.chain) (journal_with restarted.entries.items)) }
+    ensures built { IfOk result (λ library. IsBuilt S.tells S.disk restarted.entries.items library) }
     ensures store { IfOk result (λ library. library.store ≡ store) }
     ensures refused { IfErr result (λ refused. (refused.0 ≡ OpenFault.NoMemory) × (refused.1 ≡ store)) }
 {
@@ -33,32 +37,48 @@ pub(crate) fn build_library<S: Store>(
         entries,
         replay,
     } = restarted;
-    let count = entries.len();
+    build_over(alloc, store, journal, entries.as_slice(), replay)
+}
+
+/// The library that these entries leave, of which the replay is what they leave, over the journal that holds them.
+fn build_over<S: Store>(
+    alloc: Global,
+    store: S,
+    journal: KeptJournal,
+    entries: &[Entry],
+    replay: Replay,
+) -> Result<KeptLibrary<S>, (OpenFault, S)>
+    requires rest { IsAtRest S.tells (S.disk store) journal entries.now replay }
+    requires sound { IsSoundWithin (library_left (λ _. 0) (attached_of journal.chain) (journal_with entries.now)) }
+    ensures built { IfOk result (λ library. IsBuilt S.tells S.disk entries.now library) }
+    ensures store { IfOk result (λ library. library.store ≡ store) }
+    ensures refused { IfErr result (λ refused. (refused.0 ≡ OpenFault.NoMemory) × (refused.1 ≡ store)) }
+{
     let attached = journal.attached();
     match restarted_contents(alloc, entries, replay, attached) {
-        Ok(contents) => begin_library(store, journal, contents, count),
+        Ok(contents) => begin_library(store, journal, contents, entries),
         Err(_) => Err((OpenFault::NoMemory, store)),
     }
 }
 
-/// The library over a store and its journal, which has so many entries. What its calls rest on is looked for; any journal that a library has kept
+/// The library over a store and its journal, which has these entries. What its calls rest on is looked for; any journal that a library has kept
 /// leaves it so.
 fn begin_library<S: Store>(
     store: S,
     journal: KeptJournal,
     contents: Contents,
-    count: usize,
+    entries: &[Entry],
 ) -> Result<KeptLibrary<S>, (OpenFault, S)>
-    requires left { contents.state ≡ library_left (λ _. 0) (attached_of journal.chain) (journal_with contents.state.entries) }
-    requires held { S.tells → Holds journal contents.state.entries (S.disk store) }
+    requires left { contents.state ≡ remembered (library_left (λ _. 0) (attached_of journal.chain) (journal_with entries.now)) }
+    requires sound { IsSoundWithin (library_left (λ _. 0) (attached_of journal.chain) (journal_with entries.now)) }
+    requires held { S.tells → Holds journal entries.now (S.disk store) }
     requires nothing_waits { journal.waiting ≡ 0 }
     requires receiver { journal.chain.first ≡ FIRST_RECEIVER }
-    requires counted { count ≡ length contents.state.entries }
-    ensures built { IfOk result (λ library. IsBuilt S.tells (S.disk store) contents.state.entries library) }
+    ensures built { IfOk result (λ library. IsBuilt S.tells S.disk entries.now library) }
     ensures store { IfOk result (λ library. library.store ≡ store) }
     ensures refused { IfErr result (λ refused. (refused.0 ≡ OpenFault.NoMemory) × (refused.1 ≡ store)) }
 {
-    if !stands_behind(&journal, count) {
+    if !stands_behind(&journal, entries.len()) {
         return Err((OpenFault::NoMemory, store));
     }
     if !may_deposit(&contents) {

@@ -17,7 +17,7 @@ use store_model::Store;
 /// Opens the library that a store keeps: what a stop left of its journal is replayed, and what is open at its end rolled back.
 /// After a refusal the store is handed back, and can be opened again.
 pub fn open_library<S: Store>(alloc: Global, store: S) -> Result<KeptLibrary<S>, (OpenFault, S)>
-    ensures opened { IfOk result (λ library. IsOpenedLibrary S.tells (S.disk store) (S.disk library.store) library) }
+    ensures opened { IfOk result (λ library. IsOpenedLibrary S.tells S.disk (S.disk store) (S.disk library.store) library) }
     ensures refused { IfErr result (λ refused. IsNotOpened refused.0 S.tells (S.disk store) (S.disk refused.1)) }
 {
     descriptions_keep_lengths();
