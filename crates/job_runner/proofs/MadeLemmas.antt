@@ -32,9 +32,9 @@ pub HasMade-more : {S C : Type 0} (tells : Type 0) (disk : S → Disk) (gives : 
     → HasMade tells disk gives first mid made → HasMade tells disk gives mid later more → HasMade tells disk gives first later (made ++ more)
 HasMade-more tells disk gives first mid later made more front back = record {
   calls = back.calls ∙ ap (λ xs. xs ++ more) front.calls ∙ append_assoc first.calls made more;
-  legal = λ start stands.
-      Leads-append tells disk first.scripts.sources first.library mid.library later.library start made more (front.legal start stands)
-      (λ between on. subst (λ (scripts : Scripts). Leads tells disk scripts.sources mid.library later.library between more) front.scripts (back.legal between on))
+  leads = λ start stands.
+      Leads-append tells disk first.scripts.sources first.library mid.library later.library start made more (front.leads start stands)
+      (λ between on. subst (λ (scripts : Scripts). Leads tells disk scripts.sources mid.library later.library between more) front.scripts (back.leads between on))
       (λ failed. let rest = back.stays failed in (rest.0, ap (λ (s : SessionOver _ _). s.library) rest.1));
   asked = AreAsked-append first.scripts.scripts first.calls made more front.asked
       (subst (λ (calls : List Call). AreAsked first.scripts.scripts calls more) front.calls (subst (λ (scripts : Scripts). AreAsked scripts.scripts mid.calls more) front.scripts back.asked));
@@ -57,7 +57,7 @@ HasMade-more tells disk gives first mid later made more front back = record {
 pub HasMade-none : {S C : Type 0} (tells : Type 0) (disk : S → Disk) (gives : C → ℕ → C → Type 0) (first : SessionOver S C) → HasMade tells disk gives first first []
 HasMade-none tells disk gives first = record {
   calls = sym (append-nil {A = Call} first.calls);
-  legal = λ start stands. Leads-none tells disk first.scripts.sources first.library start stands;
+  leads = λ start stands. Leads-none tells disk first.scripts.sources first.library start stands;
   asked = tt;
   given = refl;
   scripts = refl;
@@ -74,7 +74,7 @@ pub HasMade-called : {S C : Type 0} (tells : Type 0) (disk : S → Disk) (gives 
     → HasMade tells disk gives first later (made ∷ [])
 HasMade-called tells disk gives first later made called faults cause calls asks_it given scripts = record {
   calls = calls;
-  legal = λ start stands. Leads-call tells disk first.scripts.sources first.library later.library made called start stands;
+  leads = λ start stands. Leads-call tells disk first.scripts.sources first.library later.library made called start stands;
   asked = (asks_it, tt);
   given = (later.clock, given, refl);
   scripts = scripts;

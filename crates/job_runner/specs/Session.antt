@@ -19,11 +19,11 @@ pub record SessionOver (S C : Type 0) : Type 0 where
   pub scripts : Scripts
   pub calls : List Call
 
--- the calls that were made lead the library on from whatever state it had, with its journal on the disk; each is what its job's script asks, at the time
--- that the clock gave. One that has failed is not called, and it fails where the store's count of faults rose.
+-- the calls that were made lead the library on from whatever state it had, with its journal on the disk: as a legal history where the store tells of its
+-- bytes, and else for what they read of the journal. Each is what its job's script asks, at the time that the clock gave. One that has failed is not called, and it fails where the store's count of faults rose.
 pub record HasMade {S C : Type 0} (tells : Type 0) (disk : S → Disk) (gives : C → ℕ → C → Type 0) (first later : SessionOver S C) (made : List Call) : Type 0 where
   pub calls : later.calls ≡ first.calls ++ made
-  pub legal : (start : State) → Stands first.library start → Leads tells disk first.scripts.sources first.library later.library start made
+  pub leads : (start : State) → Stands tells disk first.library start → Leads tells disk first.scripts.sources first.library later.library start made
   pub asked : AreAsked first.scripts.scripts first.calls made
   pub given : AreGiven gives first.clock later.clock made
   pub scripts : later.scripts ≡ first.scripts
