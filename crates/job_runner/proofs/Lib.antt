@@ -5,6 +5,7 @@ pub mod LedLemmas
 pub mod MadeLemmas
 pub mod PlaceLemmas
 pub mod ProgressLemmas
+pub mod ReadingLemmas
 pub mod RunLemmas
 pub mod StartLemmas
 pub mod TurnLemmas
