@@ -1,4 +1,5 @@
 pub mod AnsweredLemmas
+pub mod BeginLemmas
 pub mod CallLemmas
 pub mod FrontLemmas
 pub mod LedLemmas
