@@ -1,5 +1,5 @@
 -- What calls have made of the disk of a library whose journal was forced whole when they began.
-use Rattle.std.proofs.Common.{◌≡◌, inl, inr, ℕ, List, [], length, take, sym, ◌∙◌, ap, subst, arith}
+use Rattle.std.proofs.Common.{◌≡◌, inl, inr, ℕ, List, [], length, take, sym, ◌∙◌, subst, arith}
 use Rattle.store_model.specs.Disk.{Areas, Disk, May}
 use Rattle.store_model.proofs.Runs.{leaves_less}
 use Rattle.receiver_chain.specs.declared.numbers.TheConstants.{FIRST_RECEIVER}

@@ -4,7 +4,7 @@ use Rattle.std.specs.Prelude.{◌≡◌, IsTrue, List, [], ◌∷◌}
 use Rattle.entry_codec.specs.declared.entries.Entry.{Entry}
 use Rattle.library_model.specs.declared.calls.Call.{Call}
 use Rattle.library_model.specs.declared.sources.NamedSource.{NamedSource}
-use Rattle.library_steps.specs.State.{State, job_at}
+use Rattle.library_steps.specs.State.{job_at}
 use Rattle.library_steps.specs.History.{is_running, Outcome, Standing, Failed}
 use Rattle.joint_state.specs.Sound.{MayBeRead}
 use Rattle.kept_library.specs.Stands.{ComesReading}

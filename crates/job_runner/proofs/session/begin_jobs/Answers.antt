@@ -1,4 +1,4 @@
-use Rattle.std.proofs.Common.{List, ℕ, [], ◌∷◌, take, get_or, sym, subst}
+use Rattle.std.proofs.Common.{◌≡◌, List, ℕ, ◌+◌, [], ◌∷◌, ◌++◌, take, get_or, sym, ◌∙◌, ap, subst}
 use Rattle.std.proofs.lemmas.List.{take_more}
 use Rattle.job_runner.specs.Places.{BeginsJobs}
 use Rattle.job_runner.proofs.BeginLemmas.{BeginsJobs-next}
@@ -6,16 +6,19 @@ use Rattle.job_runner.proofs.session.begin_jobs.Goals as goal
 
 pub loop-name-preserved : goal.loop-name-preserved
 loop-name-preserved g c =
-    let names = c.args.names.now in
+    let names : List (List ℕ) = c.args.names.now in
     let before = take c.loop-name.name-index names in
-    let name = get_or names c.loop-name.name-index [] in
+    let name : List ℕ = c.name-item.result in
+    let same : get_or names c.loop-name.name-index name ≡ name = let is = c.name-item.is in cc in
     let next : BeginsJobs g.S.Store.tells g.S.Store.disk c.loop-name.library c.begin_job.new.self (name ∷ []) = record {
-      state = c.begin_job.ensures.begun;
-      stands = c.begin_job.ensures.stands;
+      state = c.in_ok-begin_job.ensures.begun;
+      stands = λ s stands. c.in_ok-begin_job.ensures.stands s stands;
       store = c.begin_job.ensures.store;
       receiver = c.begin_job.ensures.receiver;
       forced = c.begin_job.ensures.forced;
       failed = c.begin_job.ensures.failed;
     } in
-    subst (λ (done : List (List ℕ)). BeginsJobs g.S.Store.tells g.S.Store.disk c.args.library c.begin_job.new.self done) (sym (take_more names c.loop-name.name-index [] c.loop-name-test.true))
-    (BeginsJobs-next g.S.Store.tells g.S.Store.disk c.args.library c.loop-name.library c.begin_job.new.self before name c.loop-name.invariant next)
+    let done : take (c.loop-name.name-index + 1) names ≡ before ++ name ∷ [] =
+    take_more names c.loop-name.name-index name c.loop-name-test.true ∙ ap (λ (last : List ℕ). before ++ last ∷ []) same in
+    subst (λ (some : List (List ℕ)). BeginsJobs g.S.Store.tells g.S.Store.disk c.args.library.now c.begin_job.new.self some) (sym done)
+    (BeginsJobs-next g.S.Store.tells g.S.Store.disk c.args.library.now c.loop-name.library c.begin_job.new.self before name c.loop-name.invariant next)
