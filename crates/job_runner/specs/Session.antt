@@ -27,7 +27,8 @@ FindsFault tells old new made =
     Rose old.faults new.faults ⊎ ((earlier : List Call) × (last : Call) × (made ≡ earlier ++ last ∷ []) × (reads_journal last.request ≡ true) × (tells → ⊥))
 
 -- the calls that were made lead the library on from whatever state it had, with its journal on the disk: as a legal history where the store tells of its
--- bytes, and else for what they read of the journal. Each is what its job's script asks, at the time that the clock gave. One that has failed is not called, and it fails where the store was found at fault.
+-- bytes, and else for what they read of the journal. Each is what its job's script asks, at the time that the clock gave. One that has failed is not called,
+-- and it fails where the store was found at fault.
 pub record HasMade {S C : Type 0} (tells : Type 0) (disk : S → Disk) (gives : C → ℕ → C → Type 0) (first later : SessionOver S C) (made : List Call) : Type 0 where
   pub calls : later.calls ≡ first.calls ++ made
   pub leads : (start : State) → Stands tells disk first.library start → Leads tells disk first.scripts.sources first.library later.library start made
