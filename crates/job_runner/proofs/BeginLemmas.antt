@@ -1,5 +1,5 @@
 -- Jobs that begin one after the other.
-use Rattle.std.proofs.Common.{◌≡◌, ℕ, List, [], ◌∷◌, ◌++◌, map, refl, sym, ◌∙◌, ap, subst, append_assoc, append-nil}
+use Rattle.std.proofs.Common.{◌≡◌, ℕ, List, [], ◌∷◌, ◌++◌, map, refl, sym, ◌∙◌, ap, subst, append_assoc}
 use Rattle.store_model.specs.Disk.{Disk}
 use Rattle.library_steps.specs.State.{State, JobState, begun, new_job}
 use Rattle.kept_library.specs.Parts.{LibraryOver}
@@ -14,19 +14,6 @@ begun-append : (s : State) (before more : List (List ℕ)) → begun (begun s be
 begun-append s before more =
     ap (λ (jobs : List JobState). record s { jobs = jobs })
     (append_assoc s.jobs (map new_job before) (map new_job more) ∙ ap (λ (jobs : List JobState). s.jobs ++ jobs) (sym (jobs-append before more)))
-
-begun-none : (s : State) → begun s [] ≡ s
-begun-none s = ap (λ (jobs : List JobState). record s { jobs = jobs }) (append-nil s.jobs)
-
-pub BeginsJobs-none : {S : Type 0} (tells : Type 0) (disk : S → Disk) (library : LibraryOver S) → BeginsJobs tells disk library library []
-BeginsJobs-none tells disk library = record {
-  state = sym (begun-none library.state);
-  stands = λ s stands. subst (λ (t : State). Stands tells disk library t) (sym (begun-none s)) stands;
-  store = refl;
-  receiver = refl;
-  forced = refl;
-  failed = refl;
-}
 
 -- one job more
 pub BeginsJobs-next : {S : Type 0} (tells : Type 0) (disk : S → Disk) (old mid new : LibraryOver S) (before : List (List ℕ)) (name : List ℕ) → BeginsJobs tells disk old mid before
