@@ -13,14 +13,20 @@ use Rattle.library_model.specs.declared.requests.Request.{Request}
 use Rattle.library_model.specs.declared.requests.Request.TheVariants.{ChangeJournal}
 use Rattle.library_model.specs.declared.sources.NamedSource.{NamedSource}
 use Rattle.library_steps.specs.State.{State, memory_of, job_at}
-use Rattle.library_steps.specs.Step.{step}
+use Rattle.library_steps.specs.Change.{changed}
+use Rattle.library_steps.specs.Step.{change, step}
 use Rattle.library_steps.specs.History.{is_running, Outcome, Standing, Failed, Comes, Runs}
 use Rattle.deposited_entries.specs.Deposits.{switches}
 use Rattle.kept_library.specs.Parts.{LibraryOver}
-use Rattle.kept_library.specs.Stands.{Stands, IsAt, Goes, whole_from}
+use Rattle.kept_library.specs.Stands.{Stands, IsAt, ComesReading, Goes, whole_from}
 use Rattle.journal_fronts.specs.Fronts.{entries_at, entries_behind, HasSwitched, IsAcknowledged, IsWhole, HasAcknowledged}
+use Rattle.memory_journal.proofs.BlankLemmas.{length-blanks}
+use Rattle.joint_state.specs.Sound.{MayBeRead}
+use Rattle.journal_model.specs.Journal.{AreNumbered}
+use Rattle.job_runner.specs.Reading.{RunsReading}
 use Rattle.job_runner.specs.Moments.{EndsWhole, IsLeft, IsAnsweredBy, LeavesForced, Leads}
 use Rattle.job_runner.proofs.AnsweredLemmas.{answered-none, answered-one, answered-append}
+use Rattle.job_runner.proofs.ReadingLemmas.{Comes-read, RunsReading-append}
 use Rattle.job_runner.proofs.FrontLemmas.{acknowledged-none, acknowledged-call, whole-none, whole-all, ends-joined, left-more, left-behind, left-joined}
 use Rattle.run_laws.proofs.AnsweredLemmas.{answered, is_unanswered, never-unanswered}
 use Rattle.run_laws.proofs.GrownLemmas.{switch-two}
@@ -32,56 +38,62 @@ stays-later : (disk : Disk) → Later disk disk
 stays-later disk = record { moment = omega arith; faults = omega arith; parts = λ t areas before left. inl left; keeps = λ t areas before left. left }
 
 -- where a stop leaves what is forced, it leaves no call more
-none-left : {S : Type 0} (disk : S → Disk) (sources : List NamedSource) (first : LibraryOver S) (acknowledged : List Call) → LeavesForced disk first
-    → HasAcknowledged sources first.state acknowledged first.book.forced
-    → (areas : Areas) → May (disk first.store) areas → IsLeft sources first.state first.book [] acknowledged (Standing first.state) areas
-none-left disk sources first acknowledged forced has areas may = record {
+none-left : {S : Type 0} (disk : S → Disk) (sources : List NamedSource) (first : LibraryOver S) (start : State) (acknowledged : List Call) → LeavesForced disk first start
+    → HasAcknowledged sources start acknowledged first.book.forced
+    → (areas : Areas) → May (disk first.store) areas → IsLeft sources start first.book [] acknowledged (Standing start) areas
+none-left disk sources first start acknowledged forced has areas may = record {
   count = first.book.forced;
   ends = record { which = inl refl; least = omega arith; has = has };
   most = forced.few;
   spells = forced.spells areas may;
 }
 
-none-led : {S : Type 0} (tells : Type 0) (disk : S → Disk) (sources : List NamedSource) (first : LibraryOver S) → first.failed ≡ false → Leads tells disk sources first first first.state []
-none-led tells disk sources first alive = record {
-  outcome = Standing first.state;
-  runs = refl;
-  at = record { alive = alive; state = refl };
-  grows = ([], sym (append-nil first.state.entries));
+same-forced : {S : Type 0} (disk : S → Disk) (library : LibraryOver S) (s t : State) → ◌≡◌ {A = Outcome} (Standing s) (Standing t) → LeavesForced disk library s
+    → LeavesForced disk library t
+same-forced disk library s t is forced = let same : s ≡ t = cc in subst (λ (x : State). LeavesForced disk library x) same forced
+
+pub Leads-none : {S : Type 0} (tells : Type 0) (disk : S → Disk) (sources : List NamedSource) (first : LibraryOver S) (start : State) → Stands tells disk first start
+    → Leads tells disk sources first first start []
+Leads-none tells disk sources first start stands = record {
+  outcome = Standing start;
+  reading = refl;
+  at = stands;
+  grows = ([], sym (append-nil start.entries));
   receiver = refl;
-  forced = λ still. record { which = inl refl; least = omega arith; has = acknowledged-none sources first.state first.book.forced };
-  left = λ told forced still. forced;
+  least = λ still. omega arith;
+  runs = λ told. refl;
+  forced = λ told still. record { which = inl refl; least = omega arith; has = acknowledged-none sources start first.book.forced };
+  left = λ told forced t is. same-forced disk first start t is forced;
   moments = λ told forced. record {
     later = stays-later (disk first.store);
-    images = λ areas may. none-left disk sources first [] forced (acknowledged-none sources first.state first.book.forced) areas may;
+    images = λ areas may. none-left disk sources first start [] forced (acknowledged-none sources start first.book.forced) areas may;
   };
-  now = λ told forced areas may. none-left disk sources first [] forced (acknowledged-none sources first.state first.book.forced) areas may;
+  now = λ told forced areas may. none-left disk sources first start [] forced (acknowledged-none sources start first.book.forced) areas may;
   answered = λ told forced.
-      answered-none sources first.state first.book (disk first.store)
-      (none-left disk sources first [] forced (acknowledged-none sources first.state first.book.forced));
+      answered-none sources start first.book (disk first.store)
+      (none-left disk sources first start [] forced (acknowledged-none sources start first.book.forced));
   roots = roots_here (disk first.store);
 }
-
-pub Leads-none : {S : Type 0} (tells : Type 0) (disk : S → Disk) (sources : List NamedSource) (first : LibraryOver S) (start : State) → Stands first start
-    → Leads tells disk sources first first start []
-Leads-none tells disk sources first start stands = subst (λ (s : State). Leads tells disk sources first first s []) stands.state (none-led tells disk sources first stands.alive)
 
 -- ---- calls, and then others
 
 module _ {S : Type 0} (tells : Type 0) (disk : S → Disk) (sources : List NamedSource) (first mid later : LibraryOver S) (start : State) (made more : List Call)
     (led : Leads tells disk sources first mid start made) where
   module _ (between : State) (is : led.outcome ≡ Standing between) (on : Leads tells disk sources mid later between more) where
-    stands-between : Stands mid between
-    stands-between = subst (λ (o : Outcome). IsAt mid o) is led.at
+    stands-between : Stands tells disk mid between
+    stands-between = subst (λ (o : Outcome). IsAt tells disk mid o) is led.at
 
-    runs-between : Runs sources (Standing start) made (Standing between)
-    runs-between = subst (λ (o : Outcome). Runs sources (Standing start) made o) is led.runs
+    reading-between : RunsReading tells sources (Standing start) made (Standing between)
+    reading-between = subst (λ (o : Outcome). RunsReading tells sources (Standing start) made o) is led.reading
 
-    front-between : EndsWhole sources start first.book.forced made made mid.book.forced
-    front-between = led.forced stands-between.alive
+    runs-between : tells → Runs sources (Standing start) made (Standing between)
+    runs-between told = subst (λ (o : Outcome). Runs sources (Standing start) made o) is (led.runs told)
 
-    still-forced : tells → LeavesForced disk first → LeavesForced disk mid
-    still-forced told forced = led.left told forced stands-between.alive
+    front-between : tells → EndsWhole sources start first.book.forced made made mid.book.forced
+    front-between told = led.forced told stands-between.alive
+
+    still-forced : tells → LeavesForced disk first start → LeavesForced disk mid between
+    still-forced told forced = led.left told forced between is
 
     grown-between : between.entries ≡ start.entries ++ led.grows.0
     grown-between = ap entries_at (sym is) ∙ led.grows.1
@@ -91,15 +103,15 @@ module _ {S : Type 0} (tells : Type 0) (disk : S → Disk) (sources : List Named
         left-more sources start between first.book made more [] on.outcome areas on.grows.0 on.grows.1
         (subst (λ (o : Outcome). IsLeft sources start first.book made [] o areas) is left)
 
-    answered-first : tells → LeavesForced disk first → (number : ℕ) → number ≤ length made
+    answered-first : tells → LeavesForced disk first start → (number : ℕ) → number ≤ length made
         → IsAnsweredBy sources start first.book made (Standing between) (disk first.store) (disk mid.store) number
     answered-first told forced number few =
         subst (λ (o : Outcome). IsAnsweredBy sources start first.book made o (disk first.store) (disk mid.store) number) is (led.answered told forced number few)
 
-    answered-all : tells → LeavesForced disk first → (number : ℕ) → number ≤ length (made ++ more)
+    answered-all : tells → LeavesForced disk first start → (number : ℕ) → number ≤ length (made ++ more)
         → IsAnsweredBy sources start first.book (made ++ more) on.outcome (disk first.store) (disk later.store) number
     answered-all told forced =
-        answered-append sources start between first.book mid.book made more runs-between (led.grows.0, grown-between) front-between led.receiver on.outcome on.grows
+        answered-append sources start between first.book mid.book made more (runs-between told) (led.grows.0, grown-between) (front-between told) led.receiver on.outcome on.grows
         (disk first.store) (disk mid.store) (disk later.store)
         (subst (λ (o : Outcome). Leaves (disk first.store) (disk mid.store) (IsLeft sources start first.book made [] o)) is (led.moments told forced))
         (on.moments told (still-forced told forced)) (answered-first told forced) (on.answered told (still-forced told forced))
@@ -107,21 +119,24 @@ module _ {S : Type 0} (tells : Type 0) (disk : S → Disk) (sources : List Named
     Leads-on : Leads tells disk sources first later start (made ++ more)
     Leads-on = record {
       outcome = on.outcome;
-      runs = Runs-append sources (Standing start) (Standing between) on.outcome made more runs-between on.runs;
+      reading = RunsReading-append tells sources (Standing start) (Standing between) on.outcome made more reading-between on.reading;
       at = on.at;
       grows = (led.grows.0 ++ on.grows.0, on.grows.1 ∙ ap (λ (es : List Entry). es ++ on.grows.0) grown-between ∙ append_assoc start.entries led.grows.0 on.grows.0);
       receiver = on.receiver ∙ led.receiver;
-      forced = λ alive. ends-joined sources start between made more runs-between first.book.forced mid.book.forced front-between more later.book.forced (on.forced alive);
-      left = λ told forced alive. on.left told (still-forced told forced) alive;
+      least = λ alive. omega (arith, led.least stands-between.alive, on.least alive);
+      runs = λ told. Runs-append sources (Standing start) (Standing between) on.outcome made more (runs-between told) (on.runs told);
+      forced = λ told alive.
+          ends-joined sources start between made more (runs-between told) first.book.forced mid.book.forced (front-between told) more later.book.forced (on.forced told alive);
+      left = λ told forced t at. on.left told (still-forced told forced) t at;
       moments = λ told forced.
           leaves_then (disk first.store) (disk mid.store) (disk later.store) (IsLeft sources start first.book (made ++ more) [] on.outcome)
           (leaves_less (disk first.store) (disk mid.store) (IsLeft sources start first.book made [] led.outcome)
           (IsLeft sources start first.book (made ++ more) [] on.outcome) (led.moments told forced) earlier-left)
           (leaves_less (disk mid.store) (disk later.store) (IsLeft sources between mid.book more [] on.outcome)
           (IsLeft sources start first.book (made ++ more) [] on.outcome) (on.moments told (still-forced told forced))
-          (λ areas left. left-behind sources start between made more runs-between first.book mid.book front-between led.receiver on.outcome areas left));
+          (λ areas left. left-behind sources start between made more (runs-between told) first.book mid.book (front-between told) led.receiver on.outcome areas left));
       now = λ told forced areas may.
-          left-joined sources start between made more runs-between first.book mid.book front-between led.receiver on.outcome areas more
+          left-joined sources start between made more (runs-between told) first.book mid.book (front-between told) led.receiver on.outcome areas more
           (on.now told (still-forced told forced) areas may);
       answered = answered-all;
       roots = roots_then (disk first.store) (disk mid.store) (disk later.store) led.roots on.roots;
@@ -133,13 +148,13 @@ module _ {S : Type 0} (tells : Type 0) (disk : S → Disk) (sources : List Named
       subst (λ (library : LibraryOver S). Leads tells disk sources first library start (made ++ more)) (sym same)
       (subst (λ (calls : List Call). Leads tells disk sources first mid start calls) (sym (ap (λ (calls : List Call). made ++ calls) none ∙ append-nil made)) led)
 
-  pub Leads-append : ((between : State) → Stands mid between → Leads tells disk sources mid later between more) → (mid.failed ≡ true → (more ≡ []) × (later ≡ mid))
+  pub Leads-append : ((between : State) → Stands tells disk mid between → Leads tells disk sources mid later between more) → (mid.failed ≡ true → (more ≡ []) × (later ≡ mid))
       → Leads tells disk sources first later start (made ++ more)
   Leads-append on ended = by led.outcome refl
     where
       by : (o : Outcome) → led.outcome ≡ o → Leads tells disk sources first later start (made ++ more)
-      by (Standing between) is = Leads-on between is (on between (subst (λ (x : Outcome). IsAt mid x) is led.at))
-      by (Failed entries) is = let failed = subst (λ (x : Outcome). IsAt mid x) is led.at in Leads-ended failed (ended failed)
+      by (Standing between) is = Leads-on between is (on between (subst (λ (x : Outcome). IsAt tells disk mid x) is led.at))
+      by (Failed entries) is = let failed = subst (λ (x : Outcome). IsAt tells disk mid x) is led.at in Leads-ended failed (ended failed)
 
 -- ---- one call
 
@@ -147,18 +162,20 @@ module _ {S : Type 0} (tells : Type 0) (disk : S → Disk) (sources : List Named
 pub record HasCalled {S : Type 0} (tells : Type 0) (disk : S → Disk) (sources : List NamedSource) (first later : LibraryOver S) (call : Call) : Type 0 where
   pub alive : first.failed ≡ false
   pub running : IsTrue (is_running (job_at call.job first.state.jobs))
-  pub goes : (s : State) → Stands first s → Goes sources later s call
-  pub moments : tells → Leaves (disk first.store) (disk later.store)
-      (IsForcedOrFrom first.book.chain.first first.book.forced (whole_from call.request first.state.entries (entries_behind sources first.state call)) (entries_behind sources first.state call))
-  pub still : later.failed ≡ false → later.state.entries ≡ first.state.entries → tells
-      → Leaves (disk first.store) (disk later.store) (IsForcedOrFrom first.book.chain.first first.book.forced (length first.state.entries) first.state.entries)
-  pub left : later.failed ≡ false → tells → (areas : Areas) → May (disk later.store) areas → SpellEntries later.book.chain.first (take later.book.forced later.state.entries) areas
-  pub acknowledged : IsAcknowledged sources first.state call → later.book.waiting ≡ 0
+  pub goes : (s : State) → Stands tells disk first s → Goes tells disk sources later s call
+  pub moments : (s : State) → Stands tells disk first s → tells → Leaves (disk first.store) (disk later.store)
+      (IsForcedOrFrom first.book.chain.first first.book.forced (whole_from call.request s.entries (entries_behind sources s call)) (entries_behind sources s call))
+  pub still : (s : State) → Stands tells disk first s → (t : State) → Stands tells disk later t → t.entries ≡ s.entries → tells
+      → Leaves (disk first.store) (disk later.store) (IsForcedOrFrom first.book.chain.first first.book.forced (length s.entries) s.entries)
+  pub left : (t : State) → Stands tells disk later t → tells → (areas : Areas) → May (disk later.store) areas
+      → SpellEntries later.book.chain.first (take later.book.forced t.entries) areas
+  pub acknowledged : (s : State) → Stands tells disk first s → tells → IsAcknowledged sources s call → later.book.waiting ≡ 0
   pub least : later.failed ≡ false → first.book.forced ≤ later.book.forced
   pub whole : later.failed ≡ false → (later.book.forced ≡ first.book.forced) ⊎ (later.book.forced ≡ length later.state.entries)
   pub all : later.failed ≡ false → later.book.forced + later.book.waiting ≡ length later.state.entries
   pub receiver : later.book.chain.first ≡ first.book.chain.first
-  pub grows : (more : List Entry) × (entries_behind sources first.state call ≡ first.state.entries ++ more)
+  pub grows : (s : State) → Stands tells disk first s → (read : List Entry) → AreNumbered (s.gone + 1) read
+      → (more : List Entry) × ((changed s (change sources read (memory_of s) call.job call.timestamp call.request)).0.entries ≡ s.entries ++ more)
   pub roots : LeavesRoots (disk first.store) (disk later.store)
 
 switches-is : (request : Request) → switches request ≡ true → request ≡ ChangeJournal
@@ -181,15 +198,24 @@ three (suc n) zero low high none one both = absurd (omega (arith, low))
 three (suc n) (suc count) low high none one both =
     three n count (omega (arith, low)) (omega (arith, high)) (λ e. none (omega (arith, e))) (λ e. one (omega (arith, e))) (λ e. both (omega (arith, e)))
 
-module _ {S : Type 0} (tells : Type 0) (disk : S → Disk) (sources : List NamedSource) (first later : LibraryOver S) (call : Call) (called : HasCalled tells disk sources first later call) where
-  abbrev s : State
-  s = first.state
+-- as many entries are in the memory as there are
+pub length-kept : {S : Type 0} (tells : Type 0) (disk : S → Disk) (library : LibraryOver S) (s : State) → Stands tells disk library s → length library.state.entries ≡ length s.entries
+length-kept tells disk library s stands =
+    ap (λ (x : State). length x.entries) stands.remembered.memory ∙ length-blanks (s.gone + 1) (length s.entries)
+
+module _ {S : Type 0} (tells : Type 0) (disk : S → Disk) (sources : List NamedSource) (first later : LibraryOver S) (call : Call) (called : HasCalled tells disk sources first later call)
+    (s : State) (here : Stands tells disk first s) where
+  running : IsTrue (is_running (job_at call.job s.jobs))
+  running = subst (λ (x : State). IsTrue (is_running (job_at call.job x.jobs))) here.remembered.memory called.running
 
   abbrev behind : List Entry
   behind = entries_behind sources s call
 
-  grown : length behind ≡ length s.entries + length called.grows.0
-  grown = ap (λ (es : List Entry). length es) called.grows.1 ∙ length-append s.entries called.grows.0
+  deposits : (more : List Entry) × (behind ≡ s.entries ++ more)
+  deposits = called.grows s here s.entries here.remembered.sound.numbered
+
+  grown : length behind ≡ length s.entries + length deposits.0
+  grown = ap (λ (es : List Entry). length es) deposits.1 ∙ length-append s.entries deposits.0
 
   -- a count of entries within the call, where its own come
   module _ (outcome : Outcome) (runs : Runs sources (Standing s) (call ∷ []) outcome) (is : entries_at outcome ≡ behind) where
@@ -216,7 +242,7 @@ module _ {S : Type 0} (tells : Type 0) (disk : S → Disk) (sources : List Named
             (λ one. record { made = 0; few = omega arith; outcome = Standing s; runs = refl; count_is = inr (one, switched switching) })
             (λ both. whole-at count (omega (arith, both, few, most)))
 
-    left-within : LeavesForced disk first → (areas : Areas) → IsForcedOrFrom first.book.chain.first first.book.forced (whole_from call.request s.entries behind) behind areas
+    left-within : LeavesForced disk first s → (areas : Areas) → IsForcedOrFrom first.book.chain.first first.book.forced (whole_from call.request s.entries behind) behind areas
         → IsLeft sources s first.book (call ∷ []) [] outcome areas
     left-within forced areas some = record {
       count = some.count;
@@ -242,145 +268,160 @@ module _ {S : Type 0} (tells : Type 0) (disk : S → Disk) (sources : List Named
         at-least : length s.entries ≤ whole_from call.request s.entries behind
         at-least = at (switches call.request)
 
-    moments-within : tells → LeavesForced disk first → Leaves (disk first.store) (disk later.store) (IsLeft sources s first.book (call ∷ []) [] outcome)
+    moments-within : tells → LeavesForced disk first s → Leaves (disk first.store) (disk later.store) (IsLeft sources s first.book (call ∷ []) [] outcome)
     moments-within told forced =
         leaves_less (disk first.store) (disk later.store) (IsForcedOrFrom first.book.chain.first first.book.forced (whole_from call.request s.entries behind) behind)
-        (IsLeft sources s first.book (call ∷ []) [] outcome) (called.moments told) (left-within forced)
+        (IsLeft sources s first.book (call ∷ []) [] outcome) (called.moments s here told) (left-within forced)
 
   -- where the library stands behind the call
-  module _ (t : State) (comes : Comes sources s call (Standing t)) (stands : Stands later t) where
-    ran : Runs sources (Standing s) (call ∷ []) (Standing t)
-    ran = (called.running, Standing t, comes, refl)
-
+  module _ (read : List Entry) (may : MayBeRead s read) (own : tells → read ≡ s.entries) (t : State) (reads : ComesReading sources read s call (Standing t))
+      (stands : Stands tells disk later t) where
     entries_are : length later.state.entries ≡ length t.entries
-    entries_are = ap (λ (x : State). length x.entries) stands.state
+    entries_are = length-kept tells disk later t stands
 
     -- what the step deposits is there, where the call was acknowledged
     deposited : (c : Comes sources s call (Standing t)) → IsAcknowledged sources s call → length behind ≤ length t.entries
     deposited (inl is) acknowledged = let same : length t.entries ≡ length behind = ap (λ (p : State × Reply). length p.0.entries) is in omega (arith, same)
     deposited (inr (same, wanting, needs)) acknowledged = absurd (not-answered sources s call (ap is_unanswered wanting) acknowledged)
 
-    grows-standing : (c : Comes sources s call (Standing t)) → (more : List Entry) × (t.entries ≡ s.entries ++ more)
-    grows-standing (inl is) = (called.grows.0, ap (λ (p : State × Reply). p.0.entries) is ∙ called.grows.1)
+    grows-standing : (c : ComesReading sources read s call (Standing t)) → (more : List Entry) × (t.entries ≡ s.entries ++ more)
+    grows-standing (inl is) = let grows = called.grows s here read may.numbered in (grows.0, ap (λ (p : State × Reply). p.0.entries) is ∙ grows.1)
     grows-standing (inr (same, wanting, needs)) = ([], ap (λ (x : State). x.entries) same ∙ sym (append-nil s.entries))
 
-    forced-standing : EndsWhole sources s first.book.forced (call ∷ []) (call ∷ []) later.book.forced
-    forced-standing = record {
-      which = elim (called.whole stands.alive) [
-        | inl before ↦ inl before
-        | inr is ↦ inr (subst (IsWhole sources s (call ∷ [])) (sym entries_are ∙ sym is) (whole-all sources s (call ∷ []) (Standing t) ran))
-      ];
-      least = called.least stands.alive;
-      has = acknowledged-call sources s call later.book.forced
-          (λ acknowledged.
-          let there : length behind ≤ length t.entries = deposited comes acknowledged in
-          omega (arith, there, called.acknowledged acknowledged, called.all stands.alive, entries_are));
-    }
+    -- where the store tells of its bytes
+    module _ (told : tells) where
+      comes : Comes sources s call (Standing t)
+      comes = Comes-read sources read s call (Standing t) (own told) reads
 
-    moments-standing : (c : Comes sources s call (Standing t)) → tells → LeavesForced disk first
-        → Leaves (disk first.store) (disk later.store) (IsLeft sources s first.book (call ∷ []) [] (Standing t))
-    moments-standing (inl is) told forced = moments-within (Standing t) ran (ap (λ (p : State × Reply). p.0.entries) is) told forced
-    moments-standing (inr (same, wanting, needs)) told forced =
-        leaves_less (disk first.store) (disk later.store) (IsForcedOrFrom first.book.chain.first first.book.forced (length s.entries) s.entries)
-        (IsLeft sources s first.book (call ∷ []) [] (Standing t)) (called.still stands.alive (ap (λ (x : State). x.entries) (stands.state ∙ same)) told)
-        (λ areas some. subst (λ (x : State). IsLeft sources s first.book (call ∷ []) [] (Standing x) areas) (sym same) (record {
-          count = some.count;
-          ends = record {
-            which = elim some.which [
-              | inl before ↦ inl before
-              | inr from ↦ inr (subst (IsWhole sources s (call ∷ [])) (count-is some.count (length s.entries) from some.at_most) (whole-none sources s (call ∷ [])))
-            ];
-            least = elim some.which [
-              | inl before ↦ omega (arith, before)
-              | inr from ↦ omega (arith, from, forced.few)
-            ];
-            has = acknowledged-none sources s some.count;
-          };
-          most = some.at_most;
-          spells = some.spells;
-        }))
-      where
-        count-is : (count n : ℕ) → n ≤ count → count ≤ n → n ≡ count
-        count-is count n low high = omega (arith, low, high)
+      ran : Runs sources (Standing s) (call ∷ []) (Standing t)
+      ran = (running, Standing t, comes, refl)
 
-    forced-left : tells → LeavesForced disk later
-    forced-left told = record { few = let all = called.all stands.alive in omega (arith, all); spells = called.left stands.alive told }
+      forced-standing : EndsWhole sources s first.book.forced (call ∷ []) (call ∷ []) later.book.forced
+      forced-standing = record {
+        which = elim (called.whole stands.alive) [
+          | inl before ↦ inl before
+          | inr is ↦ inr (subst (IsWhole sources s (call ∷ [])) (sym entries_are ∙ sym is) (whole-all sources s (call ∷ []) (Standing t) ran))
+        ];
+        least = called.least stands.alive;
+        has = acknowledged-call sources s call later.book.forced
+            (λ acknowledged.
+            let there : length behind ≤ length t.entries = deposited comes acknowledged in
+            omega (arith, there, called.acknowledged s here told acknowledged, called.all stands.alive, entries_are));
+      }
 
-    now-standing : tells → (areas : Areas) → May (disk later.store) areas → IsLeft sources s first.book (call ∷ []) (call ∷ []) (Standing t) areas
-    now-standing told areas may = record {
-      count = later.book.forced;
-      ends = forced-standing;
-      most = let all = called.all stands.alive in omega (arith, all, entries_are);
-      spells =
-          subst (λ (n : ℕ). SpellEntries n (take later.book.forced t.entries) areas) called.receiver
-          (subst (λ (x : State). SpellEntries later.book.chain.first (take later.book.forced x.entries) areas) stands.state (called.left stands.alive told areas may));
-    }
+      moments-standing : (c : Comes sources s call (Standing t)) → LeavesForced disk first s
+          → Leaves (disk first.store) (disk later.store) (IsLeft sources s first.book (call ∷ []) [] (Standing t))
+      moments-standing (inl is) forced = moments-within (Standing t) ran (ap (λ (p : State × Reply). p.0.entries) is) told forced
+      moments-standing (inr (same, wanting, needs)) forced =
+          leaves_less (disk first.store) (disk later.store) (IsForcedOrFrom first.book.chain.first first.book.forced (length s.entries) s.entries)
+          (IsLeft sources s first.book (call ∷ []) [] (Standing t)) (called.still s here t stands (ap (λ (x : State). x.entries) same) told)
+          (λ areas some. subst (λ (x : State). IsLeft sources s first.book (call ∷ []) [] (Standing x) areas) (sym same) (record {
+            count = some.count;
+            ends = record {
+              which = elim some.which [
+                | inl before ↦ inl before
+                | inr from ↦ inr (subst (IsWhole sources s (call ∷ [])) (count-is some.count (length s.entries) from some.at_most) (whole-none sources s (call ∷ [])))
+              ];
+              least = elim some.which [
+                | inl before ↦ omega (arith, before)
+                | inr from ↦ omega (arith, from, forced.few)
+              ];
+              has = acknowledged-none sources s some.count;
+            };
+            most = some.at_most;
+            spells = some.spells;
+          }))
+        where
+          count-is : (count n : ℕ) → n ≤ count → count ≤ n → n ≡ count
+          count-is count n low high = omega (arith, low, high)
+
+      forced-left : LeavesForced disk later t
+      forced-left = record { few = let all = called.all stands.alive in omega (arith, all, entries_are); spells = called.left t stands told }
+
+      now-standing : (areas : Areas) → May (disk later.store) areas → IsLeft sources s first.book (call ∷ []) (call ∷ []) (Standing t) areas
+      now-standing areas may = record {
+        count = later.book.forced;
+        ends = forced-standing;
+        most = let all = called.all stands.alive in omega (arith, all, entries_are);
+        spells = subst (λ (n : ℕ). SpellEntries n (take later.book.forced t.entries) areas) called.receiver (called.left t stands told areas may);
+      }
 
     standing : Leads tells disk sources first later s (call ∷ [])
     standing = record {
       outcome = Standing t;
-      runs = ran;
+      reading = (running, read, may, own, Standing t, reads, refl);
       at = stands;
-      grows = grows-standing comes;
+      grows = grows-standing reads;
       receiver = called.receiver;
-      forced = λ alive. forced-standing;
-      left = λ told forced alive. forced-left told;
-      moments = λ told forced. moments-standing comes told forced;
+      least = called.least;
+      runs = ran;
+      forced = λ told alive. forced-standing told;
+      left = λ told forced u is. same-forced disk later t u is (forced-left told);
+      moments = λ told forced. moments-standing told (comes told) forced;
       now = λ told forced areas may. now-standing told areas may;
       answered = λ told forced.
-          answered-one sources s first.book call (Standing t) (disk first.store) (disk later.store) ran (grows-standing comes) (moments-standing comes told forced) (now-standing told);
+          answered-one sources s first.book call (Standing t) (disk first.store) (disk later.store) (ran told) (grows-standing reads) (moments-standing told (comes told) forced)
+          (now-standing told);
       roots = called.roots;
     }
 
   -- where the store was at fault
-  module _ (entries : List Entry) (comes : Comes sources s call (Failed entries)) (failed : later.failed ≡ true) where
-    ran-failed : Runs sources (Standing s) (call ∷ []) (Failed entries)
-    ran-failed = (called.running, Failed entries, comes, refl)
+  module _ (read : List Entry) (may : MayBeRead s read) (own : tells → read ≡ s.entries) (entries : List Entry) (reads : ComesReading sources read s call (Failed entries))
+      (failed : later.failed ≡ true) where
+    grows-failed : (more : List Entry) × (entries ≡ s.entries ++ more)
+    grows-failed = let grows = called.grows s here read may.numbered in (grows.0, reads.1 ∙ grows.1)
 
     not-alive : {P : Type 0} → later.failed ≡ false → P
     not-alive alive = absurd (let f = failed in let a = alive in cc)
 
-    now-failed : tells → LeavesForced disk first → (areas : Areas) → May (disk later.store) areas → IsLeft sources s first.book (call ∷ []) (call ∷ []) (Failed entries) areas
-    now-failed told forced areas may =
-        let moments = moments-within (Failed entries) ran-failed comes.1 told forced in
-        let left = leaves_now (disk first.store) (disk later.store) (IsLeft sources s first.book (call ∷ []) [] (Failed entries)) moments areas may in
-        record {
-          count = left.count;
-          ends = record {
-            which = left.ends.which;
-            least = left.ends.least;
-            has = acknowledged-call sources s call left.count (λ acknowledged. absurd (not-answered sources s call (ap is_unanswered comes.0) acknowledged));
-          };
-          most = left.most;
-          spells = left.spells;
-        }
+    -- where the store tells of its bytes
+    module _ (told : tells) where
+      comes-failed : Comes sources s call (Failed entries)
+      comes-failed = Comes-read sources read s call (Failed entries) (own told) reads
+
+      ran-failed : Runs sources (Standing s) (call ∷ []) (Failed entries)
+      ran-failed = (running, Failed entries, comes-failed, refl)
+
+      now-failed : LeavesForced disk first s → (areas : Areas) → May (disk later.store) areas → IsLeft sources s first.book (call ∷ []) (call ∷ []) (Failed entries) areas
+      now-failed forced areas may =
+          let moments = moments-within (Failed entries) ran-failed comes-failed.1 told forced in
+          let left = leaves_now (disk first.store) (disk later.store) (IsLeft sources s first.book (call ∷ []) [] (Failed entries)) moments areas may in
+          record {
+            count = left.count;
+            ends = record {
+              which = left.ends.which;
+              least = left.ends.least;
+              has = acknowledged-call sources s call left.count (λ acknowledged. absurd (not-answered sources s call (ap is_unanswered comes-failed.0) acknowledged));
+            };
+            most = left.most;
+            spells = left.spells;
+          }
 
     ended : Leads tells disk sources first later s (call ∷ [])
     ended = record {
       outcome = Failed entries;
-      runs = ran-failed;
+      reading = (running, read, may, own, Failed entries, reads, refl);
       at = failed;
-      grows = (called.grows.0, comes.1 ∙ called.grows.1);
+      grows = grows-failed;
       receiver = called.receiver;
-      forced = λ alive. not-alive alive;
-      left = λ told forced alive. not-alive alive;
-      moments = λ told forced. moments-within (Failed entries) ran-failed comes.1 told forced;
+      least = called.least;
+      runs = ran-failed;
+      forced = λ told alive. not-alive alive;
+      left = λ told forced t is. absurd cc;
+      moments = λ told forced. moments-within (Failed entries) (ran-failed told) (comes-failed told).1 told forced;
       now = λ told forced areas may. now-failed told forced areas may;
       answered = λ told forced.
-          answered-one sources s first.book call (Failed entries) (disk first.store) (disk later.store) ran-failed (called.grows.0, comes.1 ∙ called.grows.1)
-          (moments-within (Failed entries) ran-failed comes.1 told forced) (now-failed told forced);
+          answered-one sources s first.book call (Failed entries) (disk first.store) (disk later.store) (ran-failed told) grows-failed
+          (moments-within (Failed entries) (ran-failed told) (comes-failed told).1 told forced) (now-failed told forced);
       roots = called.roots;
     }
 
-  led-call : Leads tells disk sources first later s (call ∷ [])
-  led-call = by done.outcome done.comes done.at
+  pub Leads-called : Leads tells disk sources first later s (call ∷ [])
+  Leads-called = by done.outcome done.comes done.at
     where
-      done : Goes sources later s call
-      done = called.goes s (record { alive = called.alive; state = refl })
+      done : Goes tells disk sources later s call
+      done = called.goes s here
 
-      by : (outcome : Outcome) → Comes sources s call outcome → IsAt later outcome → Leads tells disk sources first later s (call ∷ [])
-      by (Standing t) comes stands = standing t comes stands
-      by (Failed entries) comes failed = ended entries comes failed
-
-  pub Leads-call : (start : State) → Stands first start → Leads tells disk sources first later start (call ∷ [])
-  Leads-call start stands = subst (λ (x : State). Leads tells disk sources first later x (call ∷ [])) stands.state led-call
+      by : (outcome : Outcome) → ComesReading sources done.read s call outcome → IsAt tells disk later outcome → Leads tells disk sources first later s (call ∷ [])
+      by (Standing t) comes stands = standing done.read done.may done.own t comes stands
+      by (Failed entries) comes failed = ended done.read done.may done.own entries comes failed

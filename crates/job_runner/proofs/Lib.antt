@@ -1,10 +1,12 @@
 pub mod AnsweredLemmas
+pub mod BeginLemmas
 pub mod CallLemmas
 pub mod FrontLemmas
 pub mod LedLemmas
 pub mod MadeLemmas
 pub mod PlaceLemmas
 pub mod ProgressLemmas
+pub mod ReadingLemmas
 pub mod RunLemmas
 pub mod StartLemmas
 pub mod TurnLemmas

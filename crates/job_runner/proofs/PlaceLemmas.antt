@@ -15,7 +15,6 @@ use Rattle.library_steps.specs.History.{is_running}
 use Rattle.library_model.specs.Ending.{is_end_job}
 use Rattle.library_core.specs.Running.{runs_after}
 use Rattle.deposited_entries.specs.Deposits.{AreShort}
-use Rattle.joint_state.specs.Sound.{IsSound}
 use Rattle.input_scripts.specs.declared.Scripts.{Scripts}
 use Rattle.input_scripts.specs.Askable.{is_askable_script}
 use Rattle.job_language.specs.declared.statements.Script.{Script}
@@ -148,9 +147,8 @@ module _ (scripts : Scripts) (old new : State) (calls : List Call) (room : ℕ) 
       ] refl
 
   -- the session with one call more, and one place of the room used
-  IsSession-called : (left : ℕ) → IsSound new → unended kept ≤ left + (if is_end_job call.request then 1 else 0) → IsSession scripts new (calls ++ call ∷ []) left (slice_set kept (job - 1) (place_after progress calls call))
-  IsSession-called left sound fits = record {
-    sound = sound;
+  IsSession-called : (left : ℕ) → unended kept ≤ left + (if is_end_job call.request then 1 else 0) → IsSession scripts new (calls ++ call ∷ []) left (slice_set kept (job - 1) (place_after progress calls call))
+  IsSession-called left fits = record {
     short = called.is.short;
     askable = called.is.askable;
     jobs = length-slice_set kept (job - 1) (place_after progress calls call) ∙ called.is.jobs;
@@ -163,9 +161,9 @@ module _ (scripts : Scripts) (old new : State) (calls : List Call) (room : ℕ) 
       enough = omega (arith, fits, unended-set kept (job - 1) place (place_after progress calls call) called.here called.runs)
 
 -- the same with the parts of the next place as the code has them
-pub IsSession-next : (scripts : Scripts) (old new : State) (calls later : List Call) (room left : ℕ) (kept : List Place) (job : ℕ) (progress : ScriptState) (place : Place) (call : Call) (at : ℕ) (ended : Bool) → Called scripts old new calls room kept job progress place call → IsSound new → later ≡ calls ++ call ∷ [] → at ≡ length calls → ended ≡ is_end_job call.request → unended kept ≤ left + (if is_end_job call.request then 1 else 0) → IsSession scripts new later left (slice_set kept (job - 1) (record { progress = progress; waiting = Some at; ended = ended }))
-IsSession-next scripts old new calls later room left kept job progress place call at ended called sound more stands ends fits =
-    rw (more, stands, ends) (IsSession-called scripts old new calls room kept job progress place call called left sound fits)
+pub IsSession-next : (scripts : Scripts) (old new : State) (calls later : List Call) (room left : ℕ) (kept : List Place) (job : ℕ) (progress : ScriptState) (place : Place) (call : Call) (at : ℕ) (ended : Bool) → Called scripts old new calls room kept job progress place call → later ≡ calls ++ call ∷ [] → at ≡ length calls → ended ≡ is_end_job call.request → unended kept ≤ left + (if is_end_job call.request then 1 else 0) → IsSession scripts new later left (slice_set kept (job - 1) (record { progress = progress; waiting = Some at; ended = ended }))
+IsSession-next scripts old new calls later room left kept job progress place call at ended called more stands ends fits =
+    rw (more, stands, ends) (IsSession-called scripts old new calls room kept job progress place call called left fits)
 
 -- what holds where a call succeeds, of one that has
 pub on_is_ok : {A E P : Type 0} (r : Result A E) → is_ok r ≡ true → OnOk r P → P
@@ -195,7 +193,6 @@ IsPlace-still scripts jobs calls job place next is same on = record { ended = sa
 pub IsSession-same : (scripts : Scripts) (state : State) (calls later : List Call) (room more : ℕ) (kept : List Place) (job : ℕ) (place next : Place) → IsSession scripts state calls room kept → 1 ≤ job → slice_get kept (job - 1) ≡ Some place → later ≡ calls → room ≤ more → place.ended ≡ false → next.ended ≡ place.ended → GoesOn (script_of scripts.scripts job) calls (calls_of job calls) next → IsSession scripts state later more (slice_set kept (job - 1) next)
 IsSession-same scripts state calls later room more kept job place next is from here same enough runs still on =
     rw same (record {
-      sound = is.sound;
       short = is.short;
       askable = is.askable;
       jobs = length-slice_set kept (job - 1) next ∙ is.jobs;
@@ -269,12 +266,11 @@ first-place-is scripts jobs at place script begun named there within fresh = rw 
   goes_on = λ e. record { no_end = search rules; reply = None; waits = refl; stands = rw (script-at scripts.scripts at script there) (IsProgress-first script) };
 })
 
-pub IsSession-first : (scripts : Scripts) (state : State) (room : ℕ) (kept : List Place) → IsSound state → AreShort scripts.sources → state.jobs ≡ map new_job scripts.names
+pub IsSession-first : (scripts : Scripts) (state : State) (room : ℕ) (kept : List Place) → AreShort scripts.sources → state.jobs ≡ map new_job scripts.names
     → IsTrue (list_all is_askable_script scripts.scripts) → length scripts.names ≡ length scripts.scripts → length scripts.scripts ≤ MOST_JOBS → MOST_JOBS ≤ room → kept ≡ map first_place scripts.scripts → IsSession scripts state [] room kept
-IsSession-first scripts state room kept sound short begun askable named few enough fresh =
+IsSession-first scripts state room kept short begun askable named few enough fresh =
     let many : length kept ≡ length scripts.scripts = rw fresh (length-map scripts.scripts first_place) in
     record {
-      sound = sound;
       short = short;
       askable = askable;
       jobs = many;

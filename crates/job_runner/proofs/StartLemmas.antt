@@ -1,8 +1,7 @@
 -- What calls have made of the disk of a library whose journal was forced whole when they began.
-use Rattle.std.proofs.Common.{◌≡◌, inl, inr, ℕ, List, [], length, take, sym, ◌∙◌, ap, subst, arith}
+use Rattle.std.proofs.Common.{◌≡◌, inl, inr, ℕ, List, [], length, take, sym, ◌∙◌, subst, arith}
 use Rattle.store_model.specs.Disk.{Areas, Disk, May}
 use Rattle.store_model.proofs.Runs.{leaves_less}
-use Rattle.entry_codec.specs.declared.entries.Entry.{Entry}
 use Rattle.receiver_chain.specs.declared.numbers.TheConstants.{FIRST_RECEIVER}
 use Rattle.journal_book.specs.Book.{BookState}
 use Rattle.journal_book.specs.Kept.{SpellEntries}
@@ -48,13 +47,14 @@ front-answered sources start book calls outcome old new number all receiver one 
 -- from such a start a stop leaves whole calls at every moment, and one now has left all that were acknowledged
 pub HasRun-made : {S C : Type 0} (tells : Type 0) (disk : S → Disk) (gives : C → ℕ → C → Type 0) (first later : SessionOver S C) (start : State) (calls : List Call)
     → StandsForced tells disk first.library start → HasMade tells disk gives first later calls → HasRun tells disk first.scripts.sources first.library later.library start calls
-HasRun-made tells disk gives first later start calls forced made = from-led (made.legal start forced.stands)
+HasRun-made tells disk gives first later start calls forced made = from-led (made.leads start forced.stands)
   where
     from-led : Leads tells disk first.scripts.sources first.library later.library start calls → HasRun tells disk first.scripts.sources first.library later.library start calls
     from-led led = record {
       outcome = led.outcome;
-      runs = led.runs;
+      reading = led.reading;
       at = led.at;
+      runs = led.runs;
       moments = λ told.
           leaves_less (disk first.library.store) (disk later.library.store) (IsLeft first.scripts.sources start first.library.book calls [] led.outcome)
           (IsFront first.scripts.sources start calls [] led.outcome) (led.moments told (forced.left told))
@@ -68,25 +68,21 @@ HasRun-made tells disk gives first later start calls forced made = from-led (mad
     }
 
 -- jobs that begin leave the disk and what is forced
-module _ {S : Type 0} (disk : S → Disk) (old new : LibraryOver S) (names : List (List ℕ)) (begins : BeginsJobs old new names) where
-  entries_stay : new.state.entries ≡ old.state.entries
-  entries_stay = ap (λ (s : State). s.entries) begins.state
-
-  pub LeavesForced-begun : LeavesForced disk old → LeavesForced disk new
-  LeavesForced-begun forced = record {
-    few = omega (arith, forced.few, begins.forced, ap (λ (es : List Entry). length es) entries_stay);
-    spells = λ areas may.
-        let spelled = forced.spells areas (subst (λ (store : S). May (disk store) areas) begins.store may) in
-        subst (λ (n : ℕ). SpellEntries n (take new.book.forced new.state.entries) areas) (sym begins.receiver)
-        (subst (λ (n : ℕ). SpellEntries old.book.chain.first (take n new.state.entries) areas) (sym begins.forced)
-        (subst (λ (es : List Entry). SpellEntries old.book.chain.first (take old.book.forced es) areas) (sym entries_stay) spelled));
-  }
+pub LeavesForced-begun : {S : Type 0} (tells : Type 0) (disk : S → Disk) (old new : LibraryOver S) (names : List (List ℕ)) (start : State) → BeginsJobs tells disk old new names
+    → LeavesForced disk old start → LeavesForced disk new (begun start names)
+LeavesForced-begun {S = S} tells disk old new names start begins forced = record {
+  few = omega (arith, forced.few, begins.forced);
+  spells = λ areas may.
+      let spelled = forced.spells areas (subst (λ (store : S). May (disk store) areas) begins.store may) in
+      subst (λ (n : ℕ). SpellEntries n (take new.book.forced start.entries) areas) (sym begins.receiver)
+      (subst (λ (n : ℕ). SpellEntries old.book.chain.first (take n start.entries) areas) (sym begins.forced) spelled);
+}
 
 pub StandsForced-begun : {S : Type 0} (tells : Type 0) (disk : S → Disk) (old new : LibraryOver S) (names : List (List ℕ)) (start : State) → StandsForced tells disk old start
-    → BeginsJobs old new names → StandsForced tells disk new (begun start names)
+    → BeginsJobs tells disk old new names → StandsForced tells disk new (begun start names)
 StandsForced-begun tells disk old new names start forced begins = record {
-  stands = record { alive = begins.failed ∙ forced.stands.alive; state = begins.state ∙ ap (λ (s : State). begun s names) forced.stands.state };
+  stands = begins.stands start forced.stands;
   all = begins.forced ∙ forced.all;
   receiver = begins.receiver ∙ forced.receiver;
-  left = λ told. LeavesForced-begun disk old new names begins (forced.left told);
+  left = λ told. LeavesForced-begun tells disk old new names start begins (forced.left told);
 }

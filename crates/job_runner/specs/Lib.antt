@@ -4,4 +4,5 @@ pub mod Moments
 pub mod Session
 pub mod Made
 pub mod Places
+pub mod Reading
 pub mod Turns

@@ -14,6 +14,7 @@ use Rattle.library_steps.specs.History.{Outcome, Standing, Runs}
 use Rattle.kept_library.specs.Parts.{LibraryOver}
 use Rattle.kept_library.specs.Stands.{Stands, IsAt}
 use Rattle.journal_fronts.specs.Fronts.{entries_at, IsWhole, HasAcknowledged, IsAnswered, IsFront}
+use Rattle.job_runner.specs.Reading.{RunsReading}
 
 -- so many entries are those that were forced before these calls, or those behind whole ones of them; they are no fewer than were forced, and have what was
 -- acknowledged
@@ -29,10 +30,10 @@ pub record IsLeft (sources : List NamedSource) (start : State) (book : BookState
   pub most : count ≤ length (entries_at outcome)
   pub spells : SpellEntries book.chain.first (take count (entries_at outcome)) areas
 
--- a stop leaves the entries that are forced
-pub record LeavesForced {S : Type 0} (disk : S → Disk) (library : LibraryOver S) : Type 0 where
-  pub few : library.book.forced ≤ length library.state.entries
-  pub spells : (areas : Areas) → May (disk library.store) areas → SpellEntries library.book.chain.first (take library.book.forced library.state.entries) areas
+-- a stop leaves the entries that are forced, of those of the state
+pub record LeavesForced {S : Type 0} (disk : S → Disk) (library : LibraryOver S) (s : State) : Type 0 where
+  pub few : library.book.forced ≤ length s.entries
+  pub spells : (areas : Areas) → May (disk library.store) areas → SpellEntries library.book.chain.first (take library.book.forced s.entries) areas
 
 -- calls led from one disk to a later one, where the book was this one before them: there is a moment, that of the answer to the call with this number, before
 -- which a stop leaves what was forced or whole ones of the calls up to it, and since which it leaves what these acknowledged besides
@@ -46,19 +47,22 @@ pub record IsAnsweredBy (sources : List NamedSource) (start : State) (book : Boo
   pub before : (areas : Areas) → new.since old.moment areas → new.since moment areas ⊎ IsLeft sources start book (take number calls) [] reached areas
   pub since : (areas : Areas) → new.since moment areas → IsLeft sources start book calls (take number calls) outcome areas
 
--- the calls led the library from a state that it had to what it is now. Entries came behind those of its journal and none went. A stop since then leaves
--- what was forced or whole calls; one now has left what was acknowledged besides, and where the library hasn't failed it leaves what is forced.
+-- the calls led the library from a state that it had to what it is now, for what they read of the journal. Entries came behind those of its journal and none
+-- went. Where the store tells of its bytes, the calls are a legal history: a stop since then leaves what was forced or whole calls; one now has left what was
+-- acknowledged besides, and where the library hasn't failed it leaves what is forced.
 pub record Leads {S : Type 0} (tells : Type 0) (disk : S → Disk) (sources : List NamedSource) (first later : LibraryOver S) (start : State) (calls : List Call) : Type 0 where
   pub outcome : Outcome
-  pub runs : Runs sources (Standing start) calls outcome
-  pub at : IsAt later outcome
+  pub reading : RunsReading tells sources (Standing start) calls outcome
+  pub at : IsAt tells disk later outcome
   pub grows : (more : List Entry) × (entries_at outcome ≡ start.entries ++ more)
   pub receiver : later.book.chain.first ≡ first.book.chain.first
-  pub forced : later.failed ≡ false → EndsWhole sources start first.book.forced calls calls later.book.forced
-  pub left : tells → LeavesForced disk first → later.failed ≡ false → LeavesForced disk later
-  pub moments : tells → LeavesForced disk first → Leaves (disk first.store) (disk later.store) (IsLeft sources start first.book calls [] outcome)
-  pub now : tells → LeavesForced disk first → (areas : Areas) → May (disk later.store) areas → IsLeft sources start first.book calls calls outcome areas
-  pub answered : tells → LeavesForced disk first → (number : ℕ) → number ≤ length calls
+  pub least : later.failed ≡ false → first.book.forced ≤ later.book.forced
+  pub runs : tells → Runs sources (Standing start) calls outcome
+  pub forced : tells → later.failed ≡ false → EndsWhole sources start first.book.forced calls calls later.book.forced
+  pub left : tells → LeavesForced disk first start → (t : State) → outcome ≡ Standing t → LeavesForced disk later t
+  pub moments : tells → LeavesForced disk first start → Leaves (disk first.store) (disk later.store) (IsLeft sources start first.book calls [] outcome)
+  pub now : tells → LeavesForced disk first start → (areas : Areas) → May (disk later.store) areas → IsLeft sources start first.book calls calls outcome areas
+  pub answered : tells → LeavesForced disk first start → (number : ℕ) → number ≤ length calls
       → IsAnsweredBy sources start first.book calls outcome (disk first.store) (disk later.store) number
   -- roots and saved states on the disk are left alone
   pub roots : LeavesRoots (disk first.store) (disk later.store)
@@ -67,17 +71,18 @@ pub record Leads {S : Type 0} (tells : Type 0) (disk : S → Disk) (sources : Li
 
 -- the library has the state, its journal's first receiver is the first of all, and all entries are forced
 pub record StandsForced {S : Type 0} (tells : Type 0) (disk : S → Disk) (library : LibraryOver S) (start : State) : Type 0 where
-  pub stands : Stands library start
+  pub stands : Stands tells disk library start
   pub all : library.book.forced ≡ length start.entries
   pub receiver : library.book.chain.first ≡ FIRST_RECEIVER
-  pub left : tells → LeavesForced disk library
+  pub left : tells → LeavesForced disk library start
 
--- the calls led on from the start; at each moment since then a stop leaves whole calls of them, with what was acknowledged before it, and one now has left
--- all that was acknowledged
+-- the calls led on from the start, for what they read of the journal. Where the store tells of its bytes, at each moment since then a stop leaves whole calls
+-- of them, with what was acknowledged before it, and one now has left all that was acknowledged
 pub record HasRun {S : Type 0} (tells : Type 0) (disk : S → Disk) (sources : List NamedSource) (first later : LibraryOver S) (start : State) (calls : List Call) : Type 0 where
   pub outcome : Outcome
-  pub runs : Runs sources (Standing start) calls outcome
-  pub at : IsAt later outcome
+  pub reading : RunsReading tells sources (Standing start) calls outcome
+  pub at : IsAt tells disk later outcome
+  pub runs : tells → Runs sources (Standing start) calls outcome
   pub moments : tells → Leaves (disk first.store) (disk later.store) (IsFront sources start calls [] outcome)
   pub now : tells → (areas : Areas) → May (disk later.store) areas → IsFront sources start calls calls outcome areas
   pub answered : tells → (number : ℕ) → number ≤ length calls → IsAnswered sources start calls outcome (disk first.store) (disk later.store) number

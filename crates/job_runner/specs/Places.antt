@@ -1,15 +1,16 @@
 -- What a session keeps beside the calls of each job: how far it has come, the call whose reply it has still to go on with, and whether it has ended.
 use Rattle.std.specs.Prelude.{◌≡◌, ℕ, ◌+◌, ◌≤◌, false, not, if◌then◌else◌, Option, Some, None, List, ◌++◌, length, slice_get, map, count_by, IsTrue}
 use Rattle.std.specs.List.{list_all}
+use Rattle.store_model.specs.Disk.{Disk}
 use Rattle.library_model.specs.declared.calls.Call.{Call}
 use Rattle.library_model.specs.declared.replies.Reply.{Reply}
 use Rattle.library_model.specs.declared.requests.Request.{Request}
 use Rattle.kept_library.specs.Parts.{LibraryOver}
-use Rattle.library_steps.specs.State.{State, JobState, job_at, new_job}
+use Rattle.kept_library.specs.Stands.{Stands}
+use Rattle.library_steps.specs.State.{State, JobState, begun, job_at, new_job}
 use Rattle.library_steps.specs.History.{is_running}
 use Rattle.library_model.specs.Ending.{is_end_job}
 use Rattle.deposited_entries.specs.Deposits.{AreShort}
-use Rattle.joint_state.specs.Sound.{IsSound}
 use Rattle.library_model.specs.declared.limits.TheConstants.{MOST_JOBS}
 use Rattle.input_scripts.specs.declared.Scripts.{Scripts}
 use Rattle.input_scripts.specs.Askable.{is_askable_script}
@@ -54,9 +55,8 @@ pub record IsPlace (scripts : List Script) (jobs : List JobState) (calls : List 
 abbrev pub unended : List Place → ℕ
 unended kept = count_by (λ place. not place.ended) kept
 
--- a sound library, sources that fit into the journal, each job's place, and room in the history for the ENDJOB of each job
+-- sources that fit into the journal, each job's place, and room in the history for the ENDJOB of each job
 pub record IsSession (scripts : Scripts) (state : State) (calls : List Call) (room : ℕ) (kept : List Place) : Type 0 where
-  pub sound : IsSound state
   pub short : AreShort scripts.sources
   pub askable : IsTrue (list_all is_askable_script scripts.scripts)
   pub jobs : length kept ≡ length scripts.scripts
@@ -68,9 +68,10 @@ pub record IsSession (scripts : Scripts) (state : State) (calls : List Call) (ro
 abbrev pub first_place : Script → Place
 first_place script = record { progress = start script; waiting = None; ended = false }
 
--- the library with a job of each name begun, in order, after those that it had; its journal has no more entries than before
-pub record BeginsJobs {S : Type 0} (old new : LibraryOver S) (names : List (List ℕ)) : Type 0 where
+-- the library with a job of each name begun, in order, after those that it had, whatever state it had; nothing of its journal has changed
+pub record BeginsJobs {S : Type 0} (tells : Type 0) (disk : S → Disk) (old new : LibraryOver S) (names : List (List ℕ)) : Type 0 where
   pub state : new.state ≡ record old.state { jobs = old.state.jobs ++ map new_job names }
+  pub stands : (s : State) → Stands tells disk old s → Stands tells disk new (begun s names)
   pub store : new.store ≡ old.store
   pub receiver : new.book.chain.first ≡ old.book.chain.first
   pub forced : new.book.forced ≡ old.book.forced

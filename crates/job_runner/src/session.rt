@@ -4,10 +4,11 @@ ghost use Rattle.std.specs.List.{list_all};
 ghost use Rattle.library_model.specs.declared.limits.TheConstants.{MOST_JOBS};
 ghost use Rattle.library_model.specs.declared.calls.Call.{Call};
 ghost use Rattle.library_model.specs.declared.replies.Reply.{Reply as ReplyValue};
-ghost use Rattle.library_steps.specs.State.{new_job};
+ghost use Rattle.library_steps.specs.State.{State};
+ghost use Rattle.kept_library.specs.Stands.{Stands};
+ghost use Rattle.job_runner.specs.Moments.{LeavesForced};
 ghost use Rattle.built_requests.specs.Built.{is_built};
 ghost use Rattle.deposited_entries.specs.Deposits.{AreShort};
-ghost use Rattle.joint_state.specs.Sound.{IsSound};
 ghost use Rattle.library_model.specs.Ending.{is_end_job};
 ghost use Rattle.job_runner.specs.declared.session.Stepped.TheVariants.{Called, Ended, Stopped};
 ghost use Rattle.job_runner.specs.declared.session.Stepped.TheVariants as stepped;
@@ -30,7 +31,6 @@ use library_model::calls::Call;
 use library_model::limits::MOST_JOBS;
 use library_model::replies::Reply;
 use library_model::requests::Request;
-use run_laws::jobs_begin_in_a_sound_library;
 use std::alloc::{AllocError, Global};
 use std::marker::Model;
 use store_model::{Clock, Store};
@@ -96,7 +96,6 @@ impl<S: Store, C: Clock> Session<S, C> {
         scripts: Scripts,
     ) -> Result<Session<S, C>, (S, C)>
         requires alive { library.failed ≡ false }
-        requires sound { IsSound library.state }
         requires none { library.state.jobs ≡ [] }
         requires short { AreShort scripts.sources }
         requires askable { IsTrue (list_all is_askable_script scripts.scripts) }
@@ -104,12 +103,10 @@ impl<S: Store, C: Clock> Session<S, C> {
         requires few { length scripts.scripts ≤ MOST_JOBS }
         ensures scripts { IfOk result (λ session. session.scripts ≡ scripts) }
         ensures calls { IfOk result (λ session. session.calls ≡ []) }
-        ensures begun { IfOk result (λ session. BeginsJobs library session.library scripts.names) }
+        ensures begun { IfOk result (λ session. BeginsJobs S.tells S.disk library session.library scripts.names) }
         ensures clock { IfOk result (λ session. session.clock ≡ clock) }
         ensures back { IfErr result (λ parts. (parts.0 ≡ library.store) × (parts.1 ≡ clock)) }
     {
-        // A sound library in which its first jobs begin stays sound.
-        jobs_begin_in_a_sound_library();
         let mut library = Library::of(library);
         let mut history = History::new(alloc);
         if begin_jobs(&mut library, scripts.names.as_slice()).is_err() {
@@ -130,9 +127,12 @@ impl<S: Store, C: Clock> Session<S, C> {
         }
     }
 
-    /// Whether a call has found the store at fault. That call was the last.
+    /// Whether a call has found the store at fault. That call was the last. Where none has, the library has a state.
     pub fn failed(&self) -> bool
-        ensures { result ≡ self.now.library.failed }
+        ensures failed { result ≡ self.now.library.failed }
+        ensures stands { result ≡ false → (s : State) × Stands S.tells S.disk self.now.library s }
+        ensures left { (s : State) → Stands S.tells S.disk self.now.library s → S.tells → LeavesForced S.disk self.now.library s }
+        ensures all { result ≡ false → self.now.library.book.forced + self.now.library.book.waiting ≡ length self.now.library.state.entries }
     {
         self.library.failed()
     }
@@ -396,7 +396,7 @@ fn is_end_job(request: &Request) -> bool
 /// Begins a job of each name, in order.
 fn begin_jobs<S: Store>(library: &mut Library<S>, names: &[Name]) -> Result<(), AllocError>
     requires few { length library.old.state.jobs + length names.now ≤ MOST_JOBS }
-    ensures begun { OnOk result (BeginsJobs library.old library.new names.now) }
+    ensures begun { OnOk result (BeginsJobs S.tells S.disk library.old library.new names.now) }
     ensures store { library.new.store ≡ library.old.store }
 {
     for name in names {

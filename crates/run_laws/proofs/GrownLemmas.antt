@@ -69,17 +69,18 @@ taken-gone : (undos : List MemberChange) (m : Memory) → (taken_back undos m).g
 taken-gone [] m = refl
 taken-gone (undo ∷ undos) m = taken-gone undos (with_slot undo.member (undo.change.place + 1) (before_of undo.change) m)
 
-module _ (s : State) (unsaved : s.checkpoint ≡ 0) (numbered : AreNumbered (s.gone + 1) s.entries) where
+-- whatever was read of the journal's entries, with their numbers
+module _ (s : State) (unsaved : s.checkpoint ≡ 0) (read : List Entry) (numbered : AreNumbered (s.gone + 1) read) where
   abbrev m : Memory
   m = memory_of s
 
   abbrev Stays : Change → Type 0
   Stays c = c.memory.gone ≡ s.gone
 
-  never : (number : ℕ) → is_needed number s.entries m ≡ false → ⊥
+  never : (number : ℕ) → is_needed number read m ≡ false → ⊥
   never number h =
-      by (last_in number s.entries) (found-late number (s.gone + 1) s.entries (omega arith) numbered)
-      (second-false (number == s.receivers.attached) (option_map_or (λ (last : ℕ). nat_lt s.checkpoint last) (last_in number s.entries) true) h)
+      by (last_in number read) (found-late number (s.gone + 1) read (omega arith) numbered)
+      (second-false (number == s.receivers.attached) (option_map_or (λ (last : ℕ). nat_lt s.checkpoint last) (last_in number read) true) h)
     where
       by : (o : Option ℕ) → IfSome o (λ (last : ℕ). 1 ≤ last) → option_map_or (λ (last : ℕ). nat_lt s.checkpoint last) o true ≡ false → ⊥
       by None late needed = absurd cc
@@ -95,7 +96,7 @@ module _ (s : State) (unsaved : s.checkpoint ≡ 0) (numbered : AreNumbered (s.g
       undo-gone new.opened.commit job (change_made m (job_of job m) new) (cycle_for m (job_of job m))
       (with_status new.opened.member touched (with_slot new.opened.member new.rrn new.slot m))
 
-  gone-stays : (sources : List NamedSource) (job timestamp : ℕ) (request : Request) (done : Change) → change sources s.entries m job timestamp request ≡ Ok done → Stays done
+  gone-stays : (sources : List NamedSource) (job timestamp : ℕ) (request : Request) (done : Change) → change sources read m job timestamp request ≡ Ok done → Stays done
   unfolding change give_up_plan
   gone-stays sources job timestamp (CreatePhysicalFile args) done h = does-each _ _ done Stays h (λ x is. refl)
   gone-stays sources job timestamp (CreateLogicalFile args) done h = does-each _ _ done Stays h (λ x is. refl)
@@ -107,11 +108,11 @@ module _ (s : State) (unsaved : s.checkpoint ≡ 0) (numbered : AreNumbered (s.g
   gone-stays sources job timestamp (EndJournaling args) done h = does-each _ _ done Stays h (λ x is. refl)
   gone-stays sources job timestamp ChangeJournal done h = does-each _ _ done Stays h (λ x is. refl)
   gone-stays sources job timestamp (DeleteReceiver args) done h =
-      does-each _ (give_up_plan s.entries m args) done Stays h
+      does-each _ (give_up_plan read m args) done Stays h
       (λ last is.
       let a = bind-ok (refuse_if (not (is_kept args.number m)) (NoSuchName (Receiver args.number))) _ last is in
-      let b = bind-ok (refuse_if (is_needed args.number s.entries m) (StillNeeded (s.checkpoint + 1))) _ last a.2 in
-      absurd (never args.number (not-refused (is_needed args.number s.entries m) (StillNeeded (s.checkpoint + 1)) b.0 b.1)))
+      let b = bind-ok (refuse_if (is_needed args.number read m) (StillNeeded (s.checkpoint + 1))) _ last a.2 in
+      absurd (never args.number (not-refused (is_needed args.number read m) (StillNeeded (s.checkpoint + 1)) b.0 b.1)))
   gone-stays sources job timestamp Checkpoint done h = does-each _ _ done Stays h (λ x is. refl)
   gone-stays sources job timestamp (DisplayJournal args) done h = does-each _ _ done Stays h (λ x is. refl)
   gone-stays sources job timestamp (ApplyChanges args) done h = does-each _ _ done Stays h (λ x is. refl)
@@ -144,8 +145,13 @@ module _ (s : State) (unsaved : s.checkpoint ≡ 0) (numbered : AreNumbered (s.g
       (done.entries, ap (λ (n : ℕ). drop n (s.entries ++ done.entries)) none)
   grown (Err reply) stays = ([], sym (append-nil s.entries))
 
-  pub entries-grow : (sources : List NamedSource) (job timestamp : ℕ) (request : Request) → (more : List Entry) × ((step sources s job timestamp request).0.entries ≡ s.entries ++ more)
-  entries-grow sources job timestamp request = grown (change sources s.entries m job timestamp request) (gone-stays sources job timestamp request)
+  pub entries-grow-reading : (sources : List NamedSource) (job timestamp : ℕ) (request : Request)
+      → (more : List Entry) × ((changed s (change sources read m job timestamp request)).0.entries ≡ s.entries ++ more)
+  entries-grow-reading sources job timestamp request = grown (change sources read m job timestamp request) (gone-stays sources job timestamp request)
+
+pub entries-grow : (s : State) → s.checkpoint ≡ 0 → AreNumbered (s.gone + 1) s.entries → (sources : List NamedSource) (job timestamp : ℕ) (request : Request)
+    → (more : List Entry) × ((step sources s job timestamp request).0.entries ≡ s.entries ++ more)
+entries-grow s unsaved numbered sources job timestamp request = entries-grow-reading s unsaved s.entries numbered sources job timestamp request
 
 -- CHGJRN deposits two entries, where it isn't refused
 switched : (s : State) (job timestamp : ℕ) (plan : Result ℕ Reply) → length (changed s (does (attach_change (memory_of s) job timestamp) plan)).0.entries ≤ length s.entries + 2

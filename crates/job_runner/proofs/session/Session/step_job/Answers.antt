@@ -7,7 +7,7 @@ use Rattle.job_runner.specs.Places.{unended}
 use Rattle.job_runner.proofs.LedLemmas.{HasCalled}
 use Rattle.job_runner.proofs.MadeLemmas.{HasMade-called}
 use Rattle.job_runner.proofs.PlaceLemmas.{Called, IsSession-next, IsSession-same, place-here, place-is, runs-still, on_is_ok, unended-most, fits-end, ended-then, ended-else, remaining-called}
-use Rattle.run_laws.proofs.GrownLemmas.{entries-grow}
+use Rattle.run_laws.proofs.GrownLemmas.{entries-grow-reading}
 use Rattle.job_runner.proofs.session.Session.step_job.Goals as goal
 
 pub returns-then-place-clause-ended : goal.returns-then-place-clause-ended
@@ -51,7 +51,6 @@ call-reply-requires-clause-ready g c =
     record {
       alive = sym c.failed.ensures.failed ∙ c.if-failed.false;
       running = runs-still _ _ _ _ _ c.args.job c.index_mut-place.result.now c.self.invariant within.0 here c.if-place.false;
-      sound = c.self.invariant.sound;
     }
 
 pub invariant_of-self-2 : goal.invariant_of-self-2
@@ -71,7 +70,7 @@ invariant_of-self-2 g c =
     let few : unended c.self.inside.places.items ≤ MOST_JOBS = omega (arith, unended-most c.self.inside.places.items, c.self.invariant.jobs, c.self.invariant.few) in
     let spare = λ (goes_on : is_end_job c.in-Ok.request ≡ false). on_is_ok c.reserve.result (sym c.is_ok-room.ensures.value ∙ c.in-Ok.ensures.room goes_on) c.reserve.ensures.room in
     let fits = fits-end (is_end_job c.in-Ok.request) c.self.inside.history.room c.reserve.new.self.room c.push.new.self.room (unended c.self.inside.places.items) c.self.invariant.enough c.reserve.ensures.kept c.push.ensures.room spare few in
-    IsSession-next c.self.inside.scripts _ _ c.self.inside.history.calls _ c.self.inside.history.room _ c.self.inside.places.items c.args.job c.ask.new.place.progress c.index_mut-place.result.now made _ _ called c.call-reply.ensures.kept (rw c.reserve.ensures.unchanged at c.push.ensures.calls) (ap length (c.calls.ensures ∙ c.reserve.ensures.unchanged)) c.is_end_job-place.ensures fits
+    IsSession-next c.self.inside.scripts _ _ c.self.inside.history.calls _ c.self.inside.history.room _ c.self.inside.places.items c.args.job c.ask.new.place.progress c.index_mut-place.result.now made _ _ called (rw c.reserve.ensures.unchanged at c.push.ensures.calls) (ap length (c.calls.ensures ∙ c.reserve.ensures.unchanged)) c.is_end_job-place.ensures fits
 
 pub returns-clause-ended : goal.returns-clause-ended
 returns-clause-ended g c =
@@ -86,8 +85,6 @@ returns-clause-called g c = λ e.
     let here = place-here _ _ _ _ _ c.args.job c.index_mut-place.result.now c.self.invariant within c.index_mut-place.ensures.value in
     let running = runs-still _ _ _ _ _ c.args.job c.index_mut-place.result.now c.self.invariant within.0 here c.if-place.false in
     let made : Call = record { job = c.args.job; timestamp = c.now-timestamp.result; request = c.in-Ok.request; reply = c.call-reply.result } in
-    let journaled = c.failed.ensures.journaled c.if-failed.false in
-    let state = c.self.inside.library.state in
     let called : HasCalled g.S.Store.tells g.S.Store.disk c.self.inside.scripts.sources c.self.inside.library c.call-reply.new.library made = record {
       alive = sym c.failed.ensures.failed ∙ c.if-failed.false;
       running = running;
@@ -100,7 +97,8 @@ returns-clause-called g c = λ e.
       whole = c.call-reply.ensures.whole;
       all = c.call-reply.ensures.all;
       receiver = c.call-reply.ensures.receiver;
-      grows = entries-grow state journaled.may.unsaved c.self.invariant.sound.numbered c.self.inside.scripts.sources c.args.job c.now-timestamp.result c.in-Ok.request;
+      grows = λ s stands read numbered.
+          entries-grow-reading s stands.remembered.journaled.may.unsaved read numbered c.self.inside.scripts.sources c.args.job c.now-timestamp.result c.in-Ok.request;
       roots = c.call-reply.ensures.roots;
     } in
     let calls = rw c.reserve.ensures.unchanged at c.push.ensures.calls in
