@@ -1,1 +1,5 @@
 pub mod Started
+pub use Rattle.library_parts.specs.Answers
+pub use Rattle.library_parts.specs.Indexed
+pub use Rattle.library_parts.specs.Remembered
+pub use Rattle.library_parts.specs.Standing

@@ -3,7 +3,7 @@ use Rattle.std.proofs.Common.{ℕ, ◌+◌, ◌≤◌, not, is_some, length, Lis
 use Rattle.entry_codec.specs.declared.entries.Entry.{Entry}
 use Rattle.entry_codec.specs.declared.kinds.EntryKind.TheVariants.{MemberCleared, MemberReorganized}
 use Rattle.member_slots.specs.Members.{member_of}
-use Rattle.lawful_states.proofs.NumberLemmas.{given-within}
+use Rattle.joint_state.proofs.NumberLemmas.{given-within}
 use Rattle.library_model.specs.declared.replies.Reply.TheVariants.{NoSuchName, StillNeeded}
 use Rattle.library_model.specs.declared.replies.Missing.TheVariants.{Receiver}
 use Rattle.library_model.specs.declared.requests.DeleteReceiver.{DeleteReceiver}

@@ -15,3 +15,4 @@ pub mod PutLemmas
 pub mod RecordSteps
 pub mod StandLemmas
 pub mod StepLemmas
+pub use Rattle.joint_state.proofs.ReadLemmas

@@ -18,7 +18,7 @@ use Rattle.joint_state.specs.Sound.{IsSound, Does, IsKept, after}
 use Rattle.joint_state.proofs.ReadLemmas.{own-read}
 use Rattle.restart_model.specs.Libraries.{journal_with}
 use Rattle.restart_model.specs.Sources.{descriptions}
-use Rattle.sound_histories.proofs.HistoryLemmas.{ReadingsStaySound}
+use Rattle.replayed_histories.proofs.SoundHistoriesHistoryLemmas.{ReadingsStaySound}
 use Rattle.replayed_histories.specs.Replayed.{AreReplaysKept, IsLeftBy, IsReplayed}
 use Rattle.replayed_histories.specs.Unsaved.{AsksNoCheckpoint, StaysCheckpoint, saves}
 use Rattle.replayed_histories.proofs.ListLemmas.{drop-none}

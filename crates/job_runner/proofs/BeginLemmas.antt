@@ -2,8 +2,8 @@
 use Rattle.std.proofs.Common.{◌≡◌, ℕ, List, [], ◌∷◌, ◌++◌, map, refl, sym, ◌∙◌, ap, subst, append_assoc}
 use Rattle.store_model.specs.Disk.{Disk}
 use Rattle.library_steps.specs.State.{State, JobState, begun, new_job}
-use Rattle.kept_library.specs.Parts.{LibraryOver}
-use Rattle.kept_library.specs.Stands.{Stands}
+use Rattle.library_core.specs.Parts.{LibraryOver}
+use Rattle.library_core.specs.Stands.{Stands}
 use Rattle.job_runner.specs.Places.{BeginsJobs}
 
 jobs-append : (before more : List (List ℕ)) → map new_job (before ++ more) ≡ map new_job before ++ map new_job more

@@ -5,7 +5,7 @@ use Rattle.library_model.specs.declared.calls.Call.{Call}
 use Rattle.library_model.specs.declared.sources.NamedSource.{NamedSource}
 use Rattle.library_steps.specs.State.{State}
 use Rattle.library_steps.specs.History.{Outcome, Standing, Failed, Comes, Runs}
-use Rattle.kept_library.specs.Stands.{ComesReading}
+use Rattle.library_core.specs.Stands.{ComesReading}
 use Rattle.job_runner.specs.Reading.{RunsReading}
 
 pub Comes-read : (sources : List NamedSource) (read : List Entry) (s : State) (call : Call) (outcome : Outcome) → read ≡ s.entries → ComesReading sources read s call outcome

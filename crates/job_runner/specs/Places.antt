@@ -5,12 +5,12 @@ use Rattle.store_model.specs.Disk.{Disk}
 use Rattle.library_model.specs.declared.calls.Call.{Call}
 use Rattle.library_model.specs.declared.replies.Reply.{Reply}
 use Rattle.library_model.specs.declared.requests.Request.{Request}
-use Rattle.kept_library.specs.Parts.{LibraryOver}
-use Rattle.kept_library.specs.Stands.{Stands}
+use Rattle.library_core.specs.Parts.{LibraryOver}
+use Rattle.library_core.specs.Stands.{Stands}
 use Rattle.library_steps.specs.State.{State, JobState, begun, job_at, new_job}
 use Rattle.library_steps.specs.History.{is_running}
 use Rattle.library_model.specs.Ending.{is_end_job}
-use Rattle.deposited_entries.specs.Deposits.{AreShort}
+use Rattle.journal_fronts.specs.Deposits.{AreShort}
 use Rattle.library_model.specs.declared.limits.TheConstants.{MOST_JOBS}
 use Rattle.input_scripts.specs.declared.Scripts.{Scripts}
 use Rattle.input_scripts.specs.Askable.{is_askable_script}

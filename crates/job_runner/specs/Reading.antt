@@ -7,7 +7,7 @@ use Rattle.library_model.specs.declared.sources.NamedSource.{NamedSource}
 use Rattle.library_steps.specs.State.{job_at}
 use Rattle.library_steps.specs.History.{is_running, Outcome, Standing, Failed}
 use Rattle.joint_state.specs.Sound.{MayBeRead}
-use Rattle.kept_library.specs.Stands.{ComesReading}
+use Rattle.library_core.specs.Stands.{ComesReading}
 
 -- the calls lead from the first outcome to the last: each is of a job that runs, and comes to what its step comes to for what was read of the journal; where
 -- the store tells of its bytes, that is what was deposited

@@ -1,6 +1,6 @@
 -- What a library may have read of its journal: its own entries, among others.
 use Rattle.std.proofs.Common.{refl}
-use Rattle.library_steps.specs.State.{State}
+use Rattle.lawful_states.specs.State.{State}
 use Rattle.joint_state.specs.Sound.{IsSound, MayBeRead}
 
 pub own-read : (s : State) → IsSound s → MayBeRead s s.entries

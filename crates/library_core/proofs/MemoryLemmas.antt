@@ -20,9 +20,9 @@ use Rattle.library_steps.specs.State.{JobState, Memory, State, job_at, memory_of
 use Rattle.library_steps.specs.History.{is_running}
 use Rattle.library_steps.specs.Change.{Change}
 use Rattle.library_steps.specs.Step.{change}
-use Rattle.library_parts.specs.Answers.{Answers}
-use Rattle.library_parts.specs.Remembered.{remembered}
-use Rattle.library_parts.specs.declared.stop.Stop.{Stop}
+use Rattle.commitment_requests.specs.Answers.{Answers}
+use Rattle.commitment_requests.specs.Remembered.{remembered}
+use Rattle.commitment_requests.below.library_parts.specs.declared.stop.Stop.{Stop}
 use Rattle.joint_state.specs.Sound.{after}
 
 -- ---- what the memory says

@@ -17,7 +17,7 @@ use Rattle.joint_state.specs.Sound.{IsSound, MayBeRead}
 use Rattle.joint_state.proofs.ReadLemmas.{own-read}
 use Rattle.journal_reads.specs.Stretches.{EntriesFrom, IsStretchOf, entries_from}
 use Rattle.journal_model.specs.Journal.{AreNumbered}
-use Rattle.library_parts.specs.Remembered.{remembered}
+use Rattle.commitment_requests.specs.Remembered.{remembered}
 use Rattle.kept_library.specs.Journaled.{IsJournaled, IsRemembered}
 use Rattle.kept_library.specs.Stands.{whole_from}
 use Rattle.library_core.specs.Puts.{HasCome, HasPut, IsAtFault, entries_reading}

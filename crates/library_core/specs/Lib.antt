@@ -2,3 +2,5 @@ pub mod Running
 pub mod Puts
 pub mod Laws
 pub mod Reads
+pub use Rattle.kept_library.specs.Parts
+pub use Rattle.kept_library.specs.Stands

@@ -9,6 +9,7 @@ pub mod library;
 mod reading;
 mod told;
 
+pub use kept_library;
 pub use library_model::calls::Call;
 pub use library_model::replies::Reply;
 pub use library_model::requests::Request;

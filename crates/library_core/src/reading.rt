@@ -15,13 +15,13 @@ ghost use Rattle.library_core.specs.Reads.{HasRead, reads_journal};
 
 use crate::kinds;
 use crate::told::is_told;
+use commitment_requests::library_parts::Contents;
 use entry_codec::Entry;
 use journal_book::BookFault;
 use journal_reads::Stretch;
 use journal_requests::display_wanted;
 use kept_journal::KeptJournal;
 use library_model::requests::Request;
-use library_parts::Contents;
 use range_requests::{RangeWanted, breaks, range_wanted};
 use receiver_chain::ChainFault;
 use store_model::Store;

@@ -10,10 +10,10 @@ ghost use Rattle.library_model.specs.Named.{named};
 ghost use Rattle.library_steps.specs.State.{FileState, format_in, physical_in};
 ghost use Rattle.joint_state.specs.Told.{IsRecordOf, IsTold, MayHavePlace, NamesPlace, TellsRecord};
 
+use commitment_requests::library_parts::Contents;
 use entry_codec::{Entry, EntryKind};
 use field_types::names::Name;
 use file_catalogue::Catalogue;
-use library_parts::Contents;
 use member_slots::member::{MOST_BYTES, MOST_SLOTS};
 use record_fmt::formats::Format;
 

@@ -7,7 +7,7 @@ use Rattle.entry_codec.specs.declared.kinds.EntryKind.{EntryKind}
 use Rattle.entry_codec.specs.declared.kinds.EntryKind.TheVariants.{FileCreated, FileDeleted, MemberAdded, JournalingStarted, InitialSlot, JournalingEnded, MemberCleared, MemberReorganized, ChangesApplied, ChangesRemoved, RecordAdded, RecordAddedAtNumber, BeforeImage, AfterImage, RecordDeleted, UndoBeforeImage, UndoAfterImage, UndoDelete, CommitmentStarted, CommitCycleStarted, CommitCycleCommitted, CommitCycleRolledBack, CommitmentEnded, AbnormalEnd, NextReceiver, PreviousReceiver}
 use Rattle.entry_codec.specs.Drafts.{numbered, group_at}
 use Rattle.journal_model.specs.Journal.{AreNumbered}
-use Rattle.library_steps.specs.Receivers.{last_in}
+use Rattle.lawful_states.specs.Receivers.{last_in}
 use Rattle.memory_journal.specs.Blanks.{blanks, is_blank, starts_none, in_memory}
 
 pub length-blanks : (first count : ℕ) → length (blanks first count) ≡ count

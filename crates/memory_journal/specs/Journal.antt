@@ -4,8 +4,8 @@ use Rattle.std.specs.Prelude.{ℕ, ◌+◌, ◌-◌, List, [], ◌++◌, length,
 use Rattle.entry_codec.specs.declared.entries.Entry.{Entry}
 use Rattle.entry_codec.specs.declared.entries.Draft.{Draft}
 use Rattle.journal_model.specs.Rollback.{numbered_from}
-use Rattle.library_steps.specs.State.{Receivers}
-use Rattle.library_steps.specs.Receivers.{last_in}
+use Rattle.lawful_states.specs.State.{Receivers}
+use Rattle.lawful_states.specs.Receivers.{last_in}
 use Rattle.memory_journal.specs.declared.journal.TheConstants.{LAST_NUMBER}
 use Rattle.memory_journal.specs.Blanks.{blanks}
 

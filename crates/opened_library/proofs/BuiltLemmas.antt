@@ -14,7 +14,7 @@ use Rattle.restart_model.specs.Libraries.{journal_with, library_left}
 use Rattle.library_steps.specs.declared.limits.TheConstants.{MOST_LIBRARY_BYTES}
 use Rattle.library_steps.specs.State.{State, JobState}
 use Rattle.library_steps.specs.Ranges.{library_bytes}
-use Rattle.library_parts.specs.Remembered.{remembered}
+use Rattle.restarted_library.specs.Remembered.{remembered}
 use Rattle.kept_library.specs.Journaled.{IsJournaled, IsRemembered, MayDeposit}
 use Rattle.kept_library.specs.Parts.{LibraryOver}
 use Rattle.kept_library.specs.Stands.{Stands}

@@ -1,7 +1,7 @@
 use Rattle.std.proofs.Common.{Result, subst}
 use Rattle.library_model.specs.declared.replies.Reply.{Reply}
 use Rattle.library_steps.specs.Change.{Change}
-use Rattle.library_parts.specs.Answers.{Answers}
+use Rattle.commitment_requests.specs.Answers.{Answers}
 use Rattle.library_core.proofs.SameLemmas.{give_up-same}
 use Rattle.library_core.proofs.dispatch.give_up.Goals as goal
 

@@ -1,5 +1,5 @@
 use Rattle.std.proofs.Common.{◌∙◌, ◌+◌, ap, sym}
-use Rattle.library_steps.specs.Receivers.{last_in}
+use Rattle.lawful_states.specs.Receivers.{last_in}
 use Rattle.memory_journal.proofs.BlankLemmas.{last_in-behind}
 use Rattle.memory_journal.proofs.journal.MemoryJournal.last_in.Goals as goal
 
