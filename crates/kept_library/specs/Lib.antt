@@ -1,5 +1,6 @@
 pub mod Parts
 pub mod Journaled
 pub mod Stands
+pub mod Unread
 pub use Rattle.deposited_entries.specs.Counted
 pub use Rattle.deposited_entries.specs.Sequences

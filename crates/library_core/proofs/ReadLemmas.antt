@@ -21,7 +21,8 @@ use Rattle.commitment_requests.specs.Remembered.{remembered}
 use Rattle.kept_library.specs.Journaled.{IsJournaled, IsRemembered}
 use Rattle.kept_library.specs.Stands.{whole_from}
 use Rattle.library_core.specs.Puts.{HasCome, HasPut, IsAtFault, entries_reading}
-use Rattle.library_core.specs.Reads.{HasRead, IsReadOf, reads_journal}
+use Rattle.library_core.specs.Reads.{HasRead, IsReadOf}
+use Rattle.kept_library.specs.Unread.{IsUnread, reads_journal}
 use Rattle.library_core.proofs.JournalLemmas.{moment-still}
 use Rattle.library_core.proofs.MemoryLemmas.{length-remembered}
 

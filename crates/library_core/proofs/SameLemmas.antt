@@ -15,7 +15,7 @@ use Rattle.library_steps.specs.Change.{does, unjournaled}
 use Rattle.library_steps.specs.Receivers.{delete_receiver, give_up_plan, given_up, is_kept, is_needed}
 use Rattle.library_steps.specs.Refusals.{◌>>=◌, refuse_if}
 use Rattle.library_steps.specs.Step.{change}
-use Rattle.library_core.specs.Reads.{reads_journal}
+use Rattle.kept_library.specs.Unread.{reads_journal}
 use Rattle.library_core.proofs.ChangeLaws.{still-needed}
 
 pub free-same : (sources : List NamedSource) (a b : List Entry) (m : Memory) (job timestamp : ℕ) (r : Request) → needs_memory r ≡ false

@@ -25,9 +25,9 @@ use Rattle.block_places.specs.Dues.{has_entries}
 use Rattle.forced_calls.specs.Forced.{is_forced}
 use Rattle.joint_state.specs.Sound.{IsSound, MayAnswerReading, MayBeRead}
 use Rattle.kept_library.specs.Journaled.{IsJournaled}
-use Rattle.library_core.specs.Reads.{reads_journal}
 use Rattle.library_core.specs.Running.{runs_after}
 use Rattle.kept_library.specs.Stands.{whole_from}
+use Rattle.kept_library.specs.Unread.{IsUnread}
 
 -- ---- the entries of a call
 
@@ -73,10 +73,6 @@ pub record IsAcknowledgedReading (sources : List NamedSource) (read : List Entry
   pub forced : done.forced ≡ true
   pub answered : call.reply ≡ done.reply
 
--- the store was found at fault: its count of faults rose, or it tells nothing of its bytes and a request read others than those of a journal of the library
-abbrev pub IsAtFault : (tells : Type 0) → (old new : Disk) → Request → Type 0
-IsAtFault tells old new request = Rose old.faults new.faults ⊎ ((reads_journal request ≡ true) × (tells → ⊥))
-
 -- a call that led from one state to another has brought these entries into the journal, in place of the first state's; or the store has failed. A stop
 -- leaves the entries that were forced before, or all
 pub record HasPut (tells : Type 0) (old new : Disk) (before after : BookState) (s t : State) (request : Request) (behind : List Entry) (failed : Bool) : Type 0 where
@@ -91,12 +87,12 @@ pub record HasPut (tells : Type 0) (old new : Disk) (before after : BookState) (
   pub receiver : after.chain.first ≡ before.chain.first
   pub roots : LeavesRoots old new
   pub faults : old.faults ≤ new.faults
-  pub cause : failed ≡ true → IsAtFault tells old new request
+  pub cause : failed ≡ true → Rose old.faults new.faults
 
--- the call was answered from this state, where the journal's entries were read as these, or with the store's fault; what holds between calls holds in the
--- state that it led to
-pub record HasAnswered (sources : List NamedSource) (read : List Entry) (s t : State) (after : BookState) (call : Call) (failed : Bool) : Type 0 where
-  pub answered : failed ≡ false → MayAnswerReading sources read s call.job call.timestamp call.request call.reply t
+-- the call was answered from this state, where the journal's entries were read as these or weren't read back, or with the store's fault; what holds between
+-- calls holds in the state that it led to
+pub record HasAnswered (tells : Type 0) (sources : List NamedSource) (read : List Entry) (s t : State) (after : BookState) (call : Call) (failed : Bool) : Type 0 where
+  pub answered : failed ≡ false → MayAnswerReading sources read s call.job call.timestamp call.request call.reply t ⊎ IsUnread tells s call t
   pub fault : failed ≡ true → call.reply ≡ reply.StoreFault
   pub other : failed ≡ false → call.reply ≢ reply.StoreFault
   pub runs : (other : ℕ) → is_running (job_at other t.jobs) ≡ runs_after call.job call.request s.jobs other
@@ -111,4 +107,4 @@ pub record HasCome (tells : Type 0) (sources : List NamedSource) (old new : Disk
   pub to : State
   pub memory : m ≡ remembered to
   pub put : HasPut tells old new before after s to call.request (entries_reading sources read s call) failed
-  pub answered : HasAnswered sources read s to after call failed
+  pub answered : HasAnswered tells sources read s to after call failed

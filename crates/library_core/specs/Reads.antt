@@ -1,18 +1,9 @@
--- Which requests read the journal, and what a stretch of it that was read is of its state. (Our own.)
-use Rattle.std.specs.Prelude.{◌≡◌, ◌+◌, Bool, true, false, Result, Ok, Err, List}
+-- What a stretch of the journal that was read is of its state. (Our own.)
+use Rattle.std.specs.Prelude.{◌≡◌, ◌+◌, Result, Ok, Err, List}
 use Rattle.entry_codec.specs.declared.entries.Entry.{Entry}
-use Rattle.library_model.specs.declared.requests.Request.{Request}
-use Rattle.library_model.specs.declared.requests.Request.TheVariants.{DisplayJournal, ApplyChanges, RemoveChanges}
 use Rattle.library_steps.specs.State.{State}
 use Rattle.joint_state.specs.Sound.{MayBeRead}
 use Rattle.journal_reads.specs.Stretches.{EntriesFrom, IsStretchOf}
-
--- DSPJRN, APYJRNCHG and RMVJRNCHG
-abbrev pub reads_journal : Request → Bool
-reads_journal (DisplayJournal args) = true
-reads_journal (ApplyChanges args) = true
-reads_journal (RemoveChanges args) = true
-reads_journal _ = false
 
 -- the stretch is a part of these entries, as which the journal of the state may be read; where the store tells, they are those that were deposited
 pub record IsReadOf (tells : Type 0) (s : State) (stretch : EntriesFrom) (read : List Entry) : Type 0 where

@@ -24,7 +24,7 @@ ghost use Rattle.library_core.specs.Reads.{IsReadOf};
 use crate::dispatch::perform;
 use crate::kinds;
 use crate::laws::journal_lasts;
-use crate::reading::read_for;
+use crate::reading::{ReadFault, read_for};
 use commitment_requests::library_parts::{Contents, Stop};
 use entry_codec::Entry;
 use forced_calls::is_forced;
@@ -87,8 +87,9 @@ fn answer_other<S: Store>(
         Ok(stretch) => answer_read(
             contents, journal, store, job, timestamp, sources, request, &stretch,
         ),
-        Err(ChainFault::NoMemory) => (Reply::NoMemory, false),
-        Err(ChainFault::StoreFault) => (Reply::StoreFault, true),
+        Err(ReadFault::NoMemory) => (Reply::NoMemory, false),
+        Err(ReadFault::StoreFault) => (Reply::StoreFault, true),
+        Err(ReadFault::BlockChanged { sequence }) => (Reply::BlockChanged { sequence }, false),
     }
 }
 

@@ -2,7 +2,7 @@
 ghost use Rattle.std.specs.Prelude.{◌≡◌};
 ghost use Rattle.library_model.specs.NeedsMemory.{needs_memory};
 ghost use Rattle.journal_fronts.specs.Deposits.{switches};
-ghost use Rattle.library_core.specs.Reads.{reads_journal};
+ghost use Rattle.kept_library.specs.Unread.{reads_journal};
 
 use library_model::requests::Request;
 

@@ -2,6 +2,7 @@
 //! the disk stands in `answering.rt`.
 ghost use Rattle.std.specs.Prelude.{◌≡◌, ◌≢◌, ◌⊎◌, ℕ, true, false, ◌+◌, ◌*◌, ◌<◌, ◌≤◌, ◌∷◌, [], ◌++◌, length, take, IsTrue, IfOk, OnOk, OnErr};
 ghost use Rattle.store_model.specs.Disk.{Areas, May, Leaves};
+ghost use Rattle.store_model.specs.Faults.{Rose};
 ghost use Rattle.receiver_chain.specs.Others.{LeavesRoots};
 ghost use Rattle.journal_book.specs.Book.{HasMoreRoom};
 ghost use Rattle.journal_book.specs.Kept.{IsForcedOrFrom, SpellEntries};
@@ -12,7 +13,6 @@ ghost use Rattle.library_steps.specs.History.{is_running};
 ghost use Rattle.commitment_requests.specs.Indexed.{ArePaths};
 ghost use Rattle.journal_fronts.specs.Fronts.{IsAcknowledged, entries_behind};
 ghost use Rattle.kept_library.specs.Journaled.{IsRemembered};
-ghost use Rattle.library_core.specs.Puts.{IsAtFault};
 ghost use Rattle.library_core.specs.Running.{runs_after};
 ghost use Rattle.kept_library.specs.Stands.{Stands, IsReady, Goes, whole_from};
 
@@ -152,7 +152,7 @@ pub fn call<S: Store>(
     // A store fault alone ends it.
     ensures alive { result ≢ Reply.StoreFault → library.new.failed ≡ false }
     ensures fault { result ≡ Reply.StoreFault → library.new.failed ≡ true }
-    ensures cause { library.new.failed ≡ true → IsAtFault S.tells (S.disk library.old.store) (S.disk library.new.store) request.now }
+    ensures cause { library.new.failed ≡ true → Rose (S.disk library.old.store).faults (S.disk library.new.store).faults }
     ensures faults { (S.disk library.old.store).faults ≤ (S.disk library.new.store).faults }
     // What a stop leaves within the call, and behind it.
     ensures moments { (s : State) → Stands S.tells S.disk library.old s → S.tells → Leaves (S.disk library.old.store) (S.disk library.new.store) (IsForcedOrFrom library.old.book.chain.first library.old.book.forced (whole_from request.now s.entries (entries_behind sources.now s (record { job = job; timestamp = timestamp; request = request.now; reply = result }))) (entries_behind sources.now s (record { job = job; timestamp = timestamp; request = request.now; reply = result }))) }

@@ -1,5 +1,5 @@
 //! What a request reads of the journal, before anything is done. `answering.rt` does the request then.
-ghost use Rattle.std.specs.Prelude.{◌≡◌, ◌+◌, ◌-◌, ◌≤◌, ◌<◌, ◌^◌, ◌⊎◌, true, false, [], length, IfOk, IsErr, IsErrOf, OnOk};
+ghost use Rattle.std.specs.Prelude.{◌≡◌, ◌+◌, ◌-◌, ◌≤◌, ◌<◌, ◌^◌, ℕ, true, false, Some, None, [], length, IfOk, IfSome, IsErr, IsErrOf, OnSome};
 ghost use Rattle.std.specs.List.{AllByRecursion};
 ghost use Rattle.store_model.specs.Faults.{Rose};
 ghost use Rattle.joint_state.specs.Told.{IsTold};
@@ -8,10 +8,10 @@ ghost use Rattle.store_model.specs.Disk.{Stays};
 ghost use Rattle.library_model.specs.NeedsMemory.{needs_memory};
 ghost use Rattle.library_steps.specs.State.{State, memory_of};
 ghost use Rattle.kept_library.specs.Journaled.{IsRemembered};
-ghost use Rattle.library_core.specs.Puts.{IsAtFault};
+ghost use Rattle.kept_library.specs.Unread.{reads_journal};
 ghost use Rattle.journal_model.specs.Journal.{AreNumbered};
 ghost use Rattle.journal_reads.specs.Stretches.{entries_from};
-ghost use Rattle.library_core.specs.Reads.{HasRead, reads_journal};
+ghost use Rattle.library_core.specs.Reads.{HasRead};
 
 use crate::kinds;
 use crate::told::is_told;
@@ -23,11 +23,20 @@ use journal_requests::display_wanted;
 use kept_journal::KeptJournal;
 use library_model::requests::Request;
 use range_requests::{RangeWanted, breaks, range_wanted};
-use receiver_chain::ChainFault;
 use store_model::Store;
 
 /// So many entries are read at once where a member's last break is looked for.
 const PIECE: u64 = 1_000;
+
+/// Why nothing was read.
+#[derive(Clone, Copy)]
+pub(crate) enum ReadFault {
+    NoMemory,
+    /// The store failed.
+    StoreFault,
+    /// The block that begins with this sequence isn't read back as the entries that were deposited, over a store that tells nothing of its bytes.
+    BlockChanged { sequence: u64 },
+}
 
 /// The stretch of the journal that the request reads; an empty one where it reads none.
 pub(crate) fn read_for<S: Store>(
@@ -35,12 +44,14 @@ pub(crate) fn read_for<S: Store>(
     journal: &KeptJournal,
     store: &mut S,
     request: &Request,
-) -> Result<Stretch, ChainFault>
+) -> Result<Stretch, ReadFault>
     requires kept { (s : State) × IsRemembered S.tells (S.disk store.old) journal.now contents.now.state s }
     ensures read { (s : State) → IsRemembered S.tells (S.disk store.old) journal.now contents.now.state s → HasRead S.tells s result }
     ensures stays { Stays (S.disk store.old) (S.disk store.new) }
     ensures wants { IsErr result → needs_memory request.now ≡ true }
-    ensures cause { IsErrOf result ChainFault.StoreFault → IsAtFault S.tells (S.disk store.old) (S.disk store.new) request.now }
+    ensures cause { IsErrOf result ReadFault.StoreFault → Rose (S.disk store.old).faults (S.disk store.new).faults }
+    ensures unread { (sequence : ℕ) → IsErrOf result (ReadFault.BlockChanged sequence) → reads_journal request.now ≡ true }
+    ensures untold { (sequence : ℕ) → IsErrOf result (ReadFault.BlockChanged sequence) → S.tells → ⊥ }
 {
     if kinds::reads_journal(request) {
         read_stretch(contents, journal, store, request)
@@ -63,12 +74,13 @@ fn read_stretch<S: Store>(
     journal: &KeptJournal,
     store: &mut S,
     request: &Request,
-) -> Result<Stretch, ChainFault>
+) -> Result<Stretch, ReadFault>
     requires reads { reads_journal request.now ≡ true }
     requires kept { (s : State) × IsRemembered S.tells (S.disk store.old) journal.now contents.now.state s }
     ensures read { (s : State) → IsRemembered S.tells (S.disk store.old) journal.now contents.now.state s → HasRead S.tells s result }
     ensures stays { Stays (S.disk store.old) (S.disk store.new) }
-    ensures cause { IsErrOf result ChainFault.StoreFault → IsAtFault S.tells (S.disk store.old) (S.disk store.new) request.now }
+    ensures cause { IsErrOf result ReadFault.StoreFault → Rose (S.disk store.old).faults (S.disk store.new).faults }
+    ensures untold { (sequence : ℕ) → IsErrOf result (ReadFault.BlockChanged sequence) → S.tells → ⊥ }
 {
     match request {
         Request::DisplayJournal(args) => match display_wanted(contents, args) {
@@ -92,7 +104,7 @@ fn read_between<S: Store>(
     store: &mut S,
     from: u64,
     to: u64,
-) -> Result<Stretch, ChainFault>
+) -> Result<Stretch, ReadFault>
     requires kept { (s : State) × IsRemembered S.tells (S.disk store.old) journal.now contents.now.state s }
     requires first { contents.now.state.gone + 1 ≤ from }
     requires order { from ≤ to }
@@ -100,53 +112,53 @@ fn read_between<S: Store>(
     requires few { to + 1 < 2 ^ 64 }
     ensures read { (s : State) → IsRemembered S.tells (S.disk store.old) journal.now contents.now.state s → HasRead S.tells s result }
     ensures stays { Stays (S.disk store.old) (S.disk store.new) }
-    ensures cause { IsErrOf result ChainFault.StoreFault → Rose (S.disk store.old).faults (S.disk store.new).faults ⊎ (S.tells → ⊥) }
+    ensures cause { IsErrOf result ReadFault.StoreFault → Rose (S.disk store.old).faults (S.disk store.new).faults }
+    ensures untold { (sequence : ℕ) → IsErrOf result (ReadFault.BlockChanged sequence) → S.tells → ⊥ }
 {
     match journal.entries(contents.alloc(), store, from, to) {
-        Ok(entries) => judged(contents, from, to, entries),
+        Ok(entries) => match judged(contents, from, to, entries) {
+            Some(stretch) => Ok(stretch),
+            None => Err(ReadFault::BlockChanged {
+                sequence: journal.block_of(from),
+            }),
+        },
         Err(fault) => Err(fault_of(fault)),
     }
 }
 
-/// Want of memory, or the store's fault: the sequences are there, and a store that tells of its bytes changes no block.
-fn fault_of(fault: BookFault) -> ChainFault
-    ensures { result ≡ ChainFault.StoreFault → fault ≡ BookFault.NoMemory → ⊥ }
+/// Why nothing was read, where the sequences are there.
+fn fault_of(fault: BookFault) -> ReadFault
+    ensures memory { fault ≡ BookFault.NoMemory → result ≡ ReadFault.NoMemory }
+    ensures changed { (sequence area at : ℕ) → fault ≡ BookFault.BlockChanged sequence area at → result ≡ ReadFault.BlockChanged sequence }
+    ensures unread { (sequence : ℕ) → result ≡ ReadFault.BlockChanged sequence → (area : ℕ) × (at : ℕ) × (fault ≡ BookFault.BlockChanged sequence area at) }
 {
     match fault {
-        BookFault::NoMemory => ChainFault::NoMemory,
-        BookFault::NoSuchEntry
-        | BookFault::ReceiverGone { .. }
-        | BookFault::StoreFault
-        | BookFault::BlockChanged { .. } => ChainFault::StoreFault,
+        BookFault::NoMemory => ReadFault::NoMemory,
+        BookFault::BlockChanged { sequence, .. } => ReadFault::BlockChanged { sequence },
+        BookFault::NoSuchEntry | BookFault::ReceiverGone { .. } | BookFault::StoreFault => {
+            ReadFault::StoreFault
+        }
     }
 }
 
 /// What was read of these sequences, where it may be so: as many entries, with their numbers, that tell of records of their files. What a store that tells
 /// of its bytes gives always is.
-fn judged(
-    contents: &Contents,
-    from: u64,
-    to: u64,
-    entries: Vec<Entry>,
-) -> Result<Stretch, ChainFault>
+fn judged(contents: &Contents, from: u64, to: u64, entries: Vec<Entry>) -> Option<Stretch>
     requires order { from ≤ to }
     requires few { to + 1 < 2 ^ 64 }
-    ensures stretch { IfOk result (λ stretch. stretch ≡ entries_from from entries.items) }
-    ensures long { OnOk result (length entries.items ≡ to + 1 - from) }
-    ensures numbered { OnOk result (AreNumbered from entries.items) }
-    ensures told { OnOk result (AllByRecursion (IsTold contents.now.state.files) entries.items) }
-    ensures other { IsErr result → length entries.items ≡ to + 1 - from → AreNumbered from entries.items → AllByRecursion (IsTold contents.now.state.files) entries.items → ⊥ }
+    ensures stretch { IfSome result (λ stretch. stretch ≡ entries_from from entries.items) }
+    ensures long { OnSome result (length entries.items ≡ to + 1 - from) }
+    ensures numbered { OnSome result (AreNumbered from entries.items) }
+    ensures told { OnSome result (AllByRecursion (IsTold contents.now.state.files) entries.items) }
+    ensures other { result ≡ None → length entries.items ≡ to + 1 - from → AreNumbered from entries.items → AllByRecursion (IsTold contents.now.state.files) entries.items → ⊥ }
 {
     if entries.len() as u64 != to - from + 1 {
-        return Err(ChainFault::StoreFault);
+        return None;
     }
     if !are_told(contents, entries.as_slice()) {
-        return Err(ChainFault::StoreFault);
+        return None;
     }
-    match Stretch::new(from, entries) {
-        Some(stretch) => Ok(stretch),
-        None => Err(ChainFault::StoreFault),
-    }
+    Stretch::new(from, entries)
 }
 
 /// Whether each entry that names a member which a file has tells of records of that file, at places that they may have.
@@ -170,11 +182,12 @@ fn read_range<S: Store>(
     journal: &KeptJournal,
     store: &mut S,
     wanted: RangeWanted,
-) -> Result<Stretch, ChainFault>
+) -> Result<Stretch, ReadFault>
     requires kept { (s : State) × IsRemembered S.tells (S.disk store.old) journal.now contents.now.state s }
     ensures read { (s : State) → IsRemembered S.tells (S.disk store.old) journal.now contents.now.state s → HasRead S.tells s result }
     ensures stays { Stays (S.disk store.old) (S.disk store.new) }
-    ensures cause { IsErrOf result ChainFault.StoreFault → Rose (S.disk store.old).faults (S.disk store.new).faults ⊎ (S.tells → ⊥) }
+    ensures cause { IsErrOf result ReadFault.StoreFault → Rose (S.disk store.old).faults (S.disk store.new).faults }
+    ensures untold { (sequence : ℕ) → IsErrOf result (ReadFault.BlockChanged sequence) → S.tells → ⊥ }
 {
     let (kept, last) = contents.bounds();
     if last < kept {
@@ -207,7 +220,7 @@ fn break_before<S: Store>(
     member: u32,
     kept: u64,
     last: u64,
-) -> Result<u64, ChainFault>
+) -> Result<u64, ReadFault>
     requires remembered { (s : State) × IsRemembered S.tells (S.disk store.old) journal.now contents.now.state s }
     requires first { contents.now.state.gone + 1 ≤ kept }
     requires order { kept ≤ last }
@@ -215,7 +228,8 @@ fn break_before<S: Store>(
     requires few { last + 1 < 2 ^ 64 }
     ensures first { IfOk result (λ begin. kept ≤ begin × begin ≤ last) }
     ensures stays { Stays (S.disk store.old) (S.disk store.new) }
-    ensures cause { IsErrOf result ChainFault.StoreFault → Rose (S.disk store.old).faults (S.disk store.new).faults ⊎ (S.tells → ⊥) }
+    ensures cause { IsErrOf result ReadFault.StoreFault → Rose (S.disk store.old).faults (S.disk store.new).faults }
+    ensures untold { (sequence : ℕ) → IsErrOf result (ReadFault.BlockChanged sequence) → S.tells → ⊥ }
 {
     let mut begin = last + 1;
     while kept < begin {

@@ -1,5 +1,5 @@
 use Rattle.std.proofs.Common.{◌≡◌, true, sym, ◌∙◌}
-use Rattle.library_core.specs.Reads.{reads_journal}
+use Rattle.kept_library.specs.Unread.{reads_journal}
 use Rattle.library_core.proofs.ReadLemmas.{nothing-has}
 use Rattle.library_core.proofs.SameLemmas.{reads-need}
 use Rattle.receiver_chain.proofs.Switches.{stays_here}
