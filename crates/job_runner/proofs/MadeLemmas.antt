@@ -2,13 +2,12 @@
 use Rattle.std.proofs.Common.{◌≡◌, inl, inr, ℕ, ◌≤◌, true, List, [], ◌∷◌, ◌++◌, refl, sym, ◌∙◌, ap, subst, arith, append_assoc, append-nil}
 use Rattle.store_model.specs.Disk.{Disk}
 use Rattle.store_model.specs.Faults.{Rose}
-use Rattle.library_core.specs.Puts.{IsAtFault}
 use Rattle.library_model.specs.declared.calls.Call.{Call}
 use Rattle.input_scripts.specs.declared.Scripts.{Scripts}
 use Rattle.job_runner.specs.Asked.{asked, AreAsked}
 use Rattle.job_runner.specs.Made.{AreGiven}
 use Rattle.job_runner.specs.Moments.{Leads}
-use Rattle.job_runner.specs.Session.{SessionOver, FindsFault, HasMade}
+use Rattle.job_runner.specs.Session.{SessionOver, HasMade}
 use Rattle.job_runner.proofs.CallLemmas.{AreAsked-append}
 use Rattle.job_runner.proofs.LedLemmas.{Leads-append, Leads-called, Leads-none, HasCalled}
 
@@ -25,17 +24,6 @@ rose-later a b c rose later = omega (arith, rose, later)
 
 rose-earlier : (a b c : ℕ) → a ≤ b → Rose b c → Rose a c
 rose-earlier a b c earlier rose = omega (arith, earlier, rose)
-
-finds-earlier : (tells : Type 0) (a b c : Disk) (made more : List Call) → a.faults ≤ b.faults → FindsFault tells b c more → FindsFault tells a c (made ++ more)
-finds-earlier tells a b c made more earlier (inl rose) = inl (rose-earlier a.faults b.faults c.faults earlier rose)
-finds-earlier tells a b c made more earlier (inr (before, last, is, reads, untold)) =
-    inr (made ++ before, last, ap (λ (calls : List Call). made ++ calls) is ∙ sym (append_assoc made before (last ∷ [])), reads, untold)
-
--- behind it no call is made
-finds-later : (tells : Type 0) (a b c : Disk) (made more : List Call) → b.faults ≤ c.faults → more ≡ [] → FindsFault tells a b made → FindsFault tells a c (made ++ more)
-finds-later tells a b c made more later none (inl rose) = inl (rose-later a.faults b.faults c.faults rose later)
-finds-later tells a b c made more later none (inr (before, last, is, reads, untold)) =
-    inr (before, last, ap (λ (calls : List Call). made ++ calls) none ∙ append-nil made ∙ is, reads, untold)
 
 -- ---- runs
 
@@ -60,9 +48,9 @@ HasMade-more tells disk gives first mid later made more front back = record {
   cause = λ failed. elim (back.cause failed) [
     | inl before ↦ elim (front.cause before) [
       | inl earlier ↦ inl earlier
-      | inr found ↦ inr (finds-later tells (disk first.library.store) (disk mid.library.store) (disk later.library.store) made more back.faults (back.stays before).0 found)
+      | inr found ↦ inr (rose-later (disk first.library.store).faults (disk mid.library.store).faults (disk later.library.store).faults found back.faults)
     ]
-    | inr found ↦ inr (finds-earlier tells (disk first.library.store) (disk mid.library.store) (disk later.library.store) made more front.faults found)
+    | inr found ↦ inr (rose-earlier (disk first.library.store).faults (disk mid.library.store).faults (disk later.library.store).faults front.faults found)
   ];
 }
 
@@ -81,7 +69,7 @@ HasMade-none tells disk gives first = record {
 -- one call, from what the library's own call says of it
 pub HasMade-called : {S C : Type 0} (tells : Type 0) (disk : S → Disk) (gives : C → ℕ → C → Type 0) (first later : SessionOver S C) (made : Call)
     → HasCalled tells disk first.scripts.sources first.library later.library made → (disk first.library.store).faults ≤ (disk later.library.store).faults
-    → (later.library.failed ≡ true → IsAtFault tells (disk first.library.store) (disk later.library.store) made.request) → later.calls ≡ first.calls ++ made ∷ []
+    → (later.library.failed ≡ true → Rose (disk first.library.store).faults (disk later.library.store).faults) → later.calls ≡ first.calls ++ made ∷ []
     → made.request ≡ asked first.scripts.scripts made.job first.calls → gives first.clock made.timestamp later.clock → later.scripts ≡ first.scripts
     → HasMade tells disk gives first later (made ∷ [])
 HasMade-called tells disk gives first later made called faults cause calls asks_it given scripts = record {
@@ -92,8 +80,5 @@ HasMade-called tells disk gives first later made called faults cause calls asks_
   scripts = scripts;
   stays = λ failed. absurd (let alive = called.alive in let e = failed in cc);
   faults = faults;
-  cause = λ failed. inr (elim (cause failed) [
-    | inl rose ↦ inl rose
-    | inr read ↦ inr ([], made, refl, read.0, read.1)
-  ]);
+  cause = λ failed. inr (cause failed);
 }

@@ -1,5 +1,5 @@
 -- What calls have led to, for what each of them read of the journal. Over a store that tells nothing of its bytes a call may read other entries than were
--- deposited; it comes then to what its step comes to with these. (Our own.)
+-- deposited; it comes then to what its step comes to with these, or is refused since a block has changed. (Our own.)
 use Rattle.std.specs.Prelude.{◌≡◌, IsTrue, List, [], ◌∷◌}
 use Rattle.entry_codec.specs.declared.entries.Entry.{Entry}
 use Rattle.library_model.specs.declared.calls.Call.{Call}
@@ -14,5 +14,5 @@ use Rattle.library_core.specs.Stands.{ComesReading}
 abbrev pub RunsReading : (tells : Type 0) → List NamedSource → Outcome → List Call → Outcome → Type 0
 RunsReading tells sources from [] to = to ≡ from
 RunsReading tells sources (Standing s) (call ∷ calls) to =
-    IsTrue (is_running (job_at call.job s.jobs)) × (read : List Entry) × MayBeRead s read × (tells → read ≡ s.entries) × (mid : Outcome) × ComesReading sources read s call mid × RunsReading tells sources mid calls to
+    IsTrue (is_running (job_at call.job s.jobs)) × (read : List Entry) × MayBeRead s read × (tells → read ≡ s.entries) × (mid : Outcome) × ComesReading tells sources read s call mid × RunsReading tells sources mid calls to
 RunsReading tells sources (Failed entries) (call ∷ calls) to = ⊥

@@ -1,12 +1,11 @@
 -- What a session is, and what a session has become of one: a library, a clock, the scripts of its jobs, and the calls that they have made.
-use Rattle.std.specs.Prelude.{◌≡◌, ◌⊎◌, ℕ, zero, suc, ◌+◌, ◌-◌, ◌≤◌, true, if◌then◌else◌, List, [], ◌∷◌, ◌++◌, length}
+use Rattle.std.specs.Prelude.{◌≡◌, ◌⊎◌, ℕ, zero, suc, ◌+◌, ◌-◌, ◌≤◌, true, if◌then◌else◌, List, [], ◌++◌, length}
 use Rattle.store_model.specs.Disk.{Disk}
 use Rattle.store_model.specs.Faults.{Rose}
 use Rattle.library_model.specs.declared.calls.Call.{Call}
 use Rattle.library_steps.specs.State.{State}
 use Rattle.library_core.specs.Parts.{LibraryOver}
 use Rattle.library_core.specs.Stands.{Stands}
-use Rattle.library_core.specs.Reads.{reads_journal}
 use Rattle.input_scripts.specs.declared.Scripts.{Scripts}
 use Rattle.job_language.specs.declared.progress.TheConstants.{MOST_STATEMENTS}
 use Rattle.job_runner.specs.Asked.{AreAsked}
@@ -20,15 +19,9 @@ pub record SessionOver (S C : Type 0) : Type 0 where
   pub scripts : Scripts
   pub calls : List Call
 
--- the store was found at fault: its count of faults rose, or it tells nothing of its bytes and the last of the calls read others than those of a journal of
--- the library
-abbrev pub FindsFault : (tells : Type 0) → (old new : Disk) → List Call → Type 0
-FindsFault tells old new made =
-    Rose old.faults new.faults ⊎ ((earlier : List Call) × (last : Call) × (made ≡ earlier ++ last ∷ []) × (reads_journal last.request ≡ true) × (tells → ⊥))
-
 -- the calls that were made lead the library on from whatever state it had, with its journal on the disk: as a legal history where the store tells of its
 -- bytes, and else for what they read of the journal. Each is what its job's script asks, at the time that the clock gave. One that has failed is not called,
--- and it fails where the store was found at fault.
+-- and it fails where the store's count of faults rose.
 pub record HasMade {S C : Type 0} (tells : Type 0) (disk : S → Disk) (gives : C → ℕ → C → Type 0) (first later : SessionOver S C) (made : List Call) : Type 0 where
   pub calls : later.calls ≡ first.calls ++ made
   pub leads : (start : State) → Stands tells disk first.library start → Leads tells disk first.scripts.sources first.library later.library start made
@@ -37,7 +30,7 @@ pub record HasMade {S C : Type 0} (tells : Type 0) (disk : S → Disk) (gives : 
   pub scripts : later.scripts ≡ first.scripts
   pub stays : first.library.failed ≡ true → (made ≡ []) × (later ≡ first)
   pub faults : (disk first.library.store).faults ≤ (disk later.library.store).faults
-  pub cause : later.library.failed ≡ true → (first.library.failed ≡ true) ⊎ FindsFault tells (disk first.library.store) (disk later.library.store) made
+  pub cause : later.library.failed ≡ true → (first.library.failed ≡ true) ⊎ Rose (disk first.library.store).faults (disk later.library.store).faults
 
 -- how many calls a job may still make: each of its statements makes one at most, and then it makes its ENDJOB
 abbrev pub remaining : ℕ → List Call → ℕ

@@ -31,4 +31,15 @@ impl KeptJournal {
     {
         self.book.entries(alloc, store, lo, hi)
     }
+    /// The first sequence of the block that has this one, as far as the book knows it without a read; this one where it waits.
+    pub fn block_of(&self, sequence: u64) -> u64
+        requires { self.now.first ≤ sequence }
+        ensures { result ≤ sequence }
+    {
+        if self.book.keeps(sequence) {
+            sequence
+        } else {
+            self.book.block_of(sequence).first
+        }
+    }
 }

@@ -33,14 +33,16 @@ use Rattle.journal_fronts.specs.Deposits.{AreShort, switches}
 use Rattle.forced_calls.proofs.ForcedLemmas.{asked}
 use Rattle.joint_state.specs.Sound.{Does, IsSound, MayBeRead, after}
 use Rattle.sound_histories.proofs.HistoryLemmas.{ReadingsStaySound}
+use Rattle.store_model.specs.Faults.{Rose}
+use Rattle.kept_library.specs.Unread.{reads_journal}
 use Rattle.kept_library.specs.Journaled.{IsBookOf, IsJournaled}
 use Rattle.library_core.specs.Laws.{DepositsStay, EntriesAreSpelled, EntriesMayWait, HasPlaces, PlacesLast}
 use Rattle.kept_library.proofs.JournaledLemmas.{counted}
-use Rattle.library_core.specs.Puts.{HasAnswered, HasCome, HasPut, HasTaken, IsAtFault, answer_given, places_taken}
+use Rattle.library_core.specs.Puts.{HasAnswered, HasCome, HasPut, HasTaken, answer_given, places_taken}
 use Rattle.kept_library.specs.Stands.{whole_from}
 use Rattle.library_core.proofs.ChangeLaws.{Keeps, change-keeps, gives_up-none}
 use Rattle.library_core.proofs.JournalLemmas.{behind-book, moment-still, more-book}
-use Rattle.library_core.proofs.OutcomeLemmas.{IsPlain, after-entries, behind-is, done-answered, fault-answered, front, no_memory-answered, refused-answered, same-entries, still-of, stopped-put, untouched-answered}
+use Rattle.library_core.proofs.OutcomeLemmas.{IsPlain, after-entries, behind-is, done-answered, fault-answered, changed-answered, front, no_memory-answered, refused-answered, same-entries, still-of, stopped-put, untouched-answered}
 use Rattle.library_core.proofs.MemoryLemmas.{entries-kept, remembered-after, remembered-twice}
 
 pub ok-is : {A E P : Type 0} (r : Result A E) → IsOk r → OnOk r P → P
@@ -216,7 +218,7 @@ module _ (tells : Type 0) (old : Disk) (before roomy : BookState) (s : State) (r
 
         -- nothing was done
         stopped-come : (u : State) (reply : Reply) → u ≡ remembered s → later ≡ roomy → ((P : Disk → Type 0) → P old → P new)
-            → HasAnswered sources read s s later (As reply) false → HasCome tells sources old new before later u s (As reply) false
+            → HasAnswered tells sources read s s later (As reply) false → HasCome tells sources old new before later u s (As reply) false
         stopped-come u reply memory book disk answered = record {
           read = read;
           may = reads;
@@ -243,7 +245,7 @@ module _ (tells : Type 0) (old : Disk) (before roomy : BookState) (s : State) (r
               memory = forgotten-after t u c leads forgets;
               put = done-put c done places made stay short new later (Ok nothing) its refl;
               answered =
-                  subst (λ (x : Reply). HasAnswered sources read s (after s c) later (As x) false) given
+                  subst (λ (x : Reply). HasAnswered tells sources read s (after s c) later (As x) false) given
                   (done-answered tells old before roomy s read reads sources job timestamp r running built sound is more plain c done stays later
                   (done-forced c done places made stay short new later (Ok nothing) its refl));
             }
@@ -277,7 +279,7 @@ module _ (tells : Type 0) (old : Disk) (before roomy : BookState) (s : State) (r
   }
 
   -- the store was found at fault where the journal was read for it
-  pub unread-come : (own : tells → read ≡ s.entries) (mid : Disk) → Stays old mid → IsAtFault tells old mid r → (m : State) → m ≡ remembered s → IsTrue (needs_memory r)
+  pub unread-come : (own : tells → read ≡ s.entries) (mid : Disk) → Stays old mid → Rose old.faults mid.faults → (m : State) → m ≡ remembered s → IsTrue (needs_memory r)
       → HasCome tells sources old mid before roomy m s (As replies.StoreFault) true
   unread-come own mid stays cause m memory needs =
       let rest = front tells old before roomy s read reads sources job timestamp r running built sound is more plain in
@@ -303,3 +305,16 @@ module _ (tells : Type 0) (old : Disk) (before roomy : BookState) (s : State) (r
         };
         answered = untouched-answered tells old before roomy s read reads sources job timestamp r running built sound is more plain roomy needs;
       }
+
+  -- it wasn't read back
+  pub changed-come : (own : tells → read ≡ s.entries) (m : State) (sequence : ℕ) → m ≡ remembered s → IsTrue (needs_memory r) → reads_journal r ≡ true → (tells → ⊥)
+      → HasCome tells sources old old before roomy m s (As (replies.BlockChanged sequence)) false
+  changed-come own m sequence memory needs asks untold = record {
+    read = read;
+    may = reads;
+    own = own;
+    to = s;
+    memory = memory;
+    put = stopped-put tells old before roomy s read reads sources job timestamp r running built sound is more plain;
+    answered = changed-answered tells old before roomy s read reads sources job timestamp r running built sound is more plain roomy sequence needs asks untold;
+  }

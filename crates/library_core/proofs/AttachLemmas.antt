@@ -158,7 +158,7 @@ module _ (tells : Type 0) (old : Disk) (before roomy : BookState) (s : State) (s
   unready-put : HasPut tells old old before roomy s s ChangeJournal Behind false
   unready-put = stopped-put tells old before roomy s s.entries reads sources job timestamp ChangeJournal running refl sound is more (attach-plain sources s.entries s job timestamp)
 
-  unready-answered : (stopped : Stop) → Gives {A = ℕ} (Err stopped) (attach_plan (memory_of s)) → HasAnswered sources s.entries s s roomy (As (reply_of (Err stopped))) false
+  unready-answered : (stopped : Stop) → Gives {A = ℕ} (Err stopped) (attach_plan (memory_of s)) → HasAnswered tells sources s.entries s s roomy (As (reply_of (Err stopped))) false
   unready-answered stop.NoMemory plan = no_memory-answered tells old before roomy s s.entries reads sources job timestamp ChangeJournal running refl sound is more (attach-plain sources s.entries s job timestamp) roomy refl
   unready-answered (stop.Refused reply) plan =
       refused-answered tells old before roomy s s.entries reads sources job timestamp ChangeJournal running refl sound is more (attach-plain sources s.entries s job timestamp) roomy reply
@@ -166,7 +166,7 @@ module _ (tells : Type 0) (old : Disk) (before roomy : BookState) (s : State) (s
 
   -- the library has come to the state that it had
   come-same : (new : Disk) (later : BookState) (m : State) (reply : Reply) (failed : Bool) → m ≡ remembered s → HasPut tells old new before later s s ChangeJournal Behind failed
-      → HasAnswered sources s.entries s s later (As reply) failed → HasCome tells sources old new before later m s (As reply) failed
+      → HasAnswered tells sources s.entries s s later (As reply) failed → HasCome tells sources old new before later m s (As reply) failed
   come-same new later m reply failed memory put answered = record { read = s.entries; may = reads; own = λ told. refl; to = s; memory = memory; put = put; answered = answered }
 
   pub unready-come : (m : State) → m ≡ remembered s → (stopped : Stop) → Gives {A = ℕ} (Err stopped) (attach_plan (memory_of s))
@@ -260,10 +260,10 @@ module _ (tells : Type 0) (old : Disk) (before roomy : BookState) (s : State) (s
         receiver = receiver ∙ more.receiver;
         roots = roots;
         faults = faults;
-        cause = λ failed. inl rose;
+        cause = λ failed. rose;
       }
 
-      fault-answered : HasAnswered sources s.entries s s later (As replies.StoreFault) true
+      fault-answered : HasAnswered tells sources s.entries s s later (As replies.StoreFault) true
       fault-answered = untouched-answered tells old before roomy s s.entries reads sources job timestamp ChangeJournal running refl sound is more (attach-plain sources s.entries s job timestamp) later refl
 
       pub fault-come : Rose old.faults new.faults → (m : State) → m ≡ remembered s → HasCome tells sources old new before later m s (As replies.StoreFault) true
@@ -322,7 +322,7 @@ module _ (tells : Type 0) (old : Disk) (before roomy : BookState) (s : State) (s
             cause = λ failed. absurd (false≢true failed);
           }
 
-          short-answered : HasAnswered sources s.entries s s later (As replies.NoMemory) false
+          short-answered : HasAnswered tells sources s.entries s s later (As replies.NoMemory) false
           short-answered = no_memory-answered tells old before roomy s s.entries reads sources job timestamp ChangeJournal running refl sound is more (attach-plain sources s.entries s job timestamp) later refl
 
           pub short-come : (m : State) → m ≡ remembered s → HasCome tells sources old new before later m s (As replies.NoMemory) false
@@ -385,7 +385,7 @@ module _ (tells : Type 0) (old : Disk) (before roomy : BookState) (s : State) (s
                 memory = forgets ∙ remembered-after s t c leads ∙ ap (λ (x : Change). remembered (after s x)) (sym is_done);
                 put = its-put;
                 answered =
-                    subst (λ (x : Reply). HasAnswered sources s.entries s (after s Done) later (As x) false) (ap (λ (x : Change). x.reply) is_done ∙ its)
+                    subst (λ (x : Reply). HasAnswered tells sources s.entries s (after s Done) later (As x) false) (ap (λ (x : Change). x.reply) is_done ∙ its)
                     (done-answered tells old before roomy s s.entries reads sources job timestamp ChangeJournal running refl sound is more (attach-plain sources s.entries s job timestamp) Done done stays later
                     (λ forced. none));
               }

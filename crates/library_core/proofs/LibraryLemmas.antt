@@ -1,6 +1,7 @@
 -- What a call says of the library, from what it made of the library's parts.
 use Rattle.std.proofs.Common.{◌≡◌, ◌≢◌, ◌⊎◌, inl, inr, ◌+◌, ◌≤◌, ℕ, Bool, true, false, List, length, take, refl, sym, ◌∙◌, ap, subst}
 use Rattle.store_model.specs.Disk.{Areas, Disk, Leaves, May}
+use Rattle.store_model.specs.Faults.{Rose}
 use Rattle.path_set.specs.KeptPaths.{NumberedPaths}
 use Rattle.entry_codec.specs.declared.entries.Entry.{Entry}
 use Rattle.receiver_chain.specs.Others.{LeavesRoots}
@@ -16,7 +17,7 @@ use Rattle.kept_library.specs.Journaled.{IsRemembered}
 use Rattle.kept_library.specs.Parts.{LibraryOver}
 use Rattle.kept_library.specs.Stands.{Goes, Stands, whole_from}
 use Rattle.kept_library.proofs.JournaledLemmas.{counted, journal-left}
-use Rattle.library_core.specs.Puts.{HasCome, IsAcknowledgedReading, IsAtFault, entries_reading}
+use Rattle.library_core.specs.Puts.{HasCome, IsAcknowledgedReading, entries_reading}
 use Rattle.library_core.specs.Running.{runs_after}
 use Rattle.library_core.proofs.MemoryLemmas.{jobs-of, length-remembered, length-same}
 
@@ -100,7 +101,7 @@ module _ {S : Type 0} (tells : Type 0) (disk : S → Disk) (sources : List Named
   pub call-fault : call.reply ≡ StoreFault → new.failed ≡ true
   call-fault = fault-by new.failed refl
 
-  pub call-cause : new.failed ≡ true → IsAtFault tells (disk old.store) (disk new.store) call.request
+  pub call-cause : new.failed ≡ true → Rose (disk old.store).faults (disk new.store).faults
   call-cause = its.put.cause
 
   pub call-faults : (disk old.store).faults ≤ (disk new.store).faults

@@ -28,6 +28,7 @@ use Rattle.kept_library.specs.Journaled.{IsJournaled}
 use Rattle.library_core.specs.Laws.{is_fault}
 use Rattle.library_core.specs.Puts.{HasAnswered, HasPut, IsAcknowledgedReading}
 use Rattle.kept_library.specs.Stands.{whole_from}
+use Rattle.kept_library.specs.Unread.{reads_journal}
 use Rattle.library_core.proofs.CallLemmas.{may-answer, runs-answered, sound-answered}
 use Rattle.library_core.proofs.JournalLemmas.{moment-still, more-journaled}
 use Rattle.library_core.proofs.RefusalLaws.{refused-told}
@@ -73,6 +74,9 @@ no-fault reply fault told is same = false≢true (sym told ∙ ap (λ (x : Reply
 
 memory-no_fault : replies.NoMemory ≡ replies.StoreFault → ⊥
 memory-no_fault is = absurd cc
+
+changed-no_fault : (sequence : ℕ) → replies.BlockChanged sequence ≡ replies.StoreFault → ⊥
+changed-no_fault sequence is = absurd cc
 
 -- ---- the call
 
@@ -131,12 +135,16 @@ module _ (tells : Type 0) (old : Disk) (before roomy : BookState) (s : State) (r
   fault-acknowledged : (later : BookState) → IsAcknowledgedReading sources read s (As replies.StoreFault) → later.waiting ≡ 0
   fault-acknowledged later asked = absurd (no-fault asked.done.reply replies.StoreFault (plain asked.done asked.is).told refl (sym asked.answered))
 
+  changed-acknowledged : (later : BookState) (sequence : ℕ) → IsAcknowledgedReading sources read s (As (replies.BlockChanged sequence)) → later.waiting ≡ 0
+  changed-acknowledged later sequence asked =
+      absurd (no-fault asked.done.reply (replies.BlockChanged sequence) (plain asked.done asked.is).told refl (sym asked.answered))
+
   refused-acknowledged : (later : BookState) (reply : Reply) → Wanted ≡ Err reply → IsAcknowledgedReading sources read s (As reply) → later.waiting ≡ 0
   refused-acknowledged later reply refused asked = absurd (ok-err asked.done reply (sym asked.is ∙ refused))
 
-  pub no_memory-answered : (later : BookState) → IsTrue (needs_memory r) → HasAnswered sources read s s later (As replies.NoMemory) false
+  pub no_memory-answered : (later : BookState) → IsTrue (needs_memory r) → HasAnswered tells sources read s s later (As replies.NoMemory) false
   no_memory-answered later needs = record {
-    answered = λ alive. inr (refl, refl, needs);
+    answered = λ alive. inl (inr (refl, refl, needs));
     fault = λ failed. absurd (false≢true failed);
     other = λ alive is. memory-no_fault is;
     runs = runs-answered sources read s s job timestamp r running built (Err stop.NoMemory) refl (λ is. needs);
@@ -145,9 +153,9 @@ module _ (tells : Type 0) (old : Disk) (before roomy : BookState) (s : State) (r
   }
 
   -- it was refused
-  pub refused-answered : (later : BookState) (reply : Reply) → Wanted ≡ Err reply → HasAnswered sources read s s later (As reply) false
+  pub refused-answered : (later : BookState) (reply : Reply) → Wanted ≡ Err reply → HasAnswered tells sources read s s later (As reply) false
   refused-answered later reply refused = record {
-    answered = λ alive. may-answer sources read s s job timestamp r (Err (stop.Refused reply)) (refl, refused) (refused-memory reply);
+    answered = λ alive. inl (may-answer sources read s s job timestamp r (Err (stop.Refused reply)) (refl, refused) (refused-memory reply));
     fault = λ failed. absurd (false≢true failed);
     other = λ alive is. no-fault reply replies.StoreFault (refused-told sources read (memory_of s) job timestamp r reply built refused) refl is;
     runs = runs-answered sources read s s job timestamp r running built (Err (stop.Refused reply)) (refl, refused) (refused-memory reply);
@@ -155,8 +163,20 @@ module _ (tells : Type 0) (old : Disk) (before roomy : BookState) (s : State) (r
     acknowledged = refused-acknowledged later reply refused;
   }
 
+  -- the journal wasn't read back
+  pub changed-answered : (later : BookState) (sequence : ℕ) → IsTrue (needs_memory r) → reads_journal r ≡ true → (tells → ⊥)
+      → HasAnswered tells sources read s s later (As (replies.BlockChanged sequence)) false
+  changed-answered later sequence needs asks untold = record {
+    answered = λ alive. inr (record { reads = asks; untold = untold; sequence = sequence; refused = refl; same = refl });
+    fault = λ failed. absurd (false≢true failed);
+    other = λ alive is. changed-no_fault sequence is;
+    runs = runs-answered sources read s s job timestamp r running built (Err stop.NoMemory) refl (λ is. needs);
+    sound = sound;
+    acknowledged = changed-acknowledged later sequence;
+  }
+
   -- the store was found at fault before anything was done in memory
-  pub untouched-answered : (later : BookState) → IsTrue (needs_memory r) → HasAnswered sources read s s later (As replies.StoreFault) true
+  pub untouched-answered : (later : BookState) → IsTrue (needs_memory r) → HasAnswered tells sources read s s later (As replies.StoreFault) true
   untouched-answered later needs = record {
     answered = λ alive. absurd (false≢true (sym alive));
     fault = λ failed. refl;
@@ -177,9 +197,9 @@ module _ (tells : Type 0) (old : Disk) (before roomy : BookState) (s : State) (r
     done-waits : (later : BookState) → (c.forced ≡ true → later.waiting ≡ 0) → IsAcknowledgedReading sources read s (As c.reply) → later.waiting ≡ 0
     done-waits later forced asked = forced (sym (ap (λ (x : Change). x.forced) (ok-same asked.done c (sym asked.is ∙ done))) ∙ asked.forced)
 
-    pub done-answered : ReadingsStaySound → (later : BookState) → (c.forced ≡ true → later.waiting ≡ 0) → HasAnswered sources read s (after s c) later (As c.reply) false
+    pub done-answered : ReadingsStaySound → (later : BookState) → (c.forced ≡ true → later.waiting ≡ 0) → HasAnswered tells sources read s (after s c) later (As c.reply) false
     done-answered stays later forced = record {
-      answered = λ alive. may-answer sources read s (after s c) job timestamp r (Ok c.reply) (c, done, refl, refl) (done-memory c.reply);
+      answered = λ alive. inl (may-answer sources read s (after s c) job timestamp r (Ok c.reply) (c, done, refl, refl) (done-memory c.reply));
       fault = λ failed. absurd (false≢true failed);
       other = λ alive is. no-fault c.reply replies.StoreFault (plain c done).told refl is;
       runs = runs-answered sources read s (after s c) job timestamp r running built (Ok c.reply) (c, done, refl, refl) (done-memory c.reply);
@@ -188,7 +208,7 @@ module _ (tells : Type 0) (old : Disk) (before roomy : BookState) (s : State) (r
     }
 
     -- and the store was found at fault then
-    pub fault-answered : ReadingsStaySound → (later : BookState) → HasAnswered sources read s (after s c) later (As replies.StoreFault) true
+    pub fault-answered : ReadingsStaySound → (later : BookState) → HasAnswered tells sources read s (after s c) later (As replies.StoreFault) true
     fault-answered stays later = record {
       answered = λ alive. absurd (false≢true (sym alive));
       fault = λ failed. refl;

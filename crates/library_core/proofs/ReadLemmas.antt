@@ -1,5 +1,5 @@
 -- A journal that was read before a call was done: the store has stayed, so that what the call made of it then it has made of it since the reading began.
-use Rattle.std.proofs.Common.{◌≡◌, ◌≤◌, ◌+◌, ◌⊎◌, inl, inr, ℕ, Bool, true, List, [], length, Result, Ok, refl, sym, ◌∙◌, ap, subst, arith}
+use Rattle.std.proofs.Common.{◌≡◌, ◌≤◌, ◌+◌, ℕ, Bool, List, [], length, Result, Ok, refl, sym, ◌∙◌, ap, subst, arith}
 use Rattle.store_model.specs.Disk.{Disk, Stays}
 use Rattle.store_model.specs.Faults.{Rose}
 use Rattle.store_model.proofs.Runs.{leaves_now, leaves_stays, leaves_then}
@@ -20,9 +20,8 @@ use Rattle.journal_model.specs.Journal.{AreNumbered}
 use Rattle.commitment_requests.specs.Remembered.{remembered}
 use Rattle.kept_library.specs.Journaled.{IsJournaled, IsRemembered}
 use Rattle.kept_library.specs.Stands.{whole_from}
-use Rattle.library_core.specs.Puts.{HasCome, HasPut, IsAtFault, entries_reading}
+use Rattle.library_core.specs.Puts.{HasCome, HasPut, entries_reading}
 use Rattle.library_core.specs.Reads.{HasRead, IsReadOf}
-use Rattle.kept_library.specs.Unread.{IsUnread, reads_journal}
 use Rattle.library_core.proofs.JournalLemmas.{moment-still}
 use Rattle.library_core.proofs.MemoryLemmas.{length-remembered}
 
@@ -34,10 +33,6 @@ remembered-stays tells old mid book m s stays is = record { memory = is.memory; 
 
 rose-behind : (a b c : ℕ) → a ≤ b → Rose b c → Rose a c
 rose-behind a b c less rose = omega (arith, less, rose)
-
-fault-behind : (tells : Type 0) (old mid new : Disk) (r : Request) → Stays old mid → IsAtFault tells mid new r → IsAtFault tells old new r
-fault-behind tells old mid new r stays (inl rose) = inl (rose-behind old.faults mid.faults new.faults stays.later.faults rose)
-fault-behind tells old mid new r stays (inr other) = inr other
 
 put-behind : (tells : Type 0) (old mid new : Disk) (before after : BookState) (s t : State) (r : Request) (behind : List Entry) (failed : Bool) → Stays old mid → IsJournaled tells old before s
     → HasPut tells mid new before after s t r behind failed → HasPut tells old new before after s t r behind failed
@@ -56,7 +51,7 @@ put-behind tells old mid new before after s t r behind failed stays is put = rec
   receiver = put.receiver;
   roots = roots_then old mid new (roots_stay old mid stays) put.roots;
   faults = omega (arith, stays.later.faults, put.faults);
-  cause = λ failing. fault-behind tells old mid new r stays (put.cause failing);
+  cause = λ failing. rose-behind old.faults mid.faults new.faults stays.later.faults (put.cause failing);
 }
 
 pub come-behind : (tells : Type 0) (sources : List NamedSource) (old mid new : Disk) (before after : BookState) (m s : State) (call : Call) (failed : Bool) → Stays old mid
@@ -97,11 +92,5 @@ nothing-has tells m s stretch memory sound is =
     (s.entries, subst (λ (x : EntriesFrom). IsReadOf tells s x s.entries) (sym is) (none-read tells s (m.gone + 1) sound (omega (arith, same))))
 
 -- the store's fault, where it has stayed before
-pub cause-behind : (tells : Type 0) (old mid new : Disk) → Stays old mid → Rose mid.faults new.faults ⊎ (tells → ⊥) → Rose old.faults new.faults ⊎ (tells → ⊥)
-cause-behind tells old mid new stays (inl rose) = inl (rose-behind old.faults mid.faults new.faults stays.later.faults rose)
-cause-behind tells old mid new stays (inr other) = inr other
-
--- and where a request reads the journal
-pub at-fault : (tells : Type 0) (old new : Disk) (r : Request) → reads_journal r ≡ true → Rose old.faults new.faults ⊎ (tells → ⊥) → IsAtFault tells old new r
-at-fault tells old new r reads (inl rose) = inl rose
-at-fault tells old new r reads (inr other) = inr (reads, other)
+pub cause-behind : (old mid new : Disk) → Stays old mid → Rose mid.faults new.faults → Rose old.faults new.faults
+cause-behind old mid new stays rose = rose-behind old.faults mid.faults new.faults stays.later.faults rose

@@ -7,7 +7,7 @@ use Rattle.kept_journal.specs.Journals.{MayWait}
 use Rattle.kept_journal.specs.declared.journal.TheConstants.{MUCH}
 use Rattle.library_model.specs.NeedsMemory.{needs_memory}
 use Rattle.library_model.specs.declared.replies.Reply.{Reply}
-use Rattle.library_model.specs.declared.replies.Reply.TheVariants.{NoMemory, StoreFault}
+use Rattle.library_model.specs.declared.replies.Reply.TheVariants.{BlockChanged, NoMemory, StoreFault}
 use Rattle.library_steps.specs.State.{State, begun}
 use Rattle.library_steps.specs.Change.{Change}
 use Rattle.block_places.specs.Dues.{places_due}
@@ -20,6 +20,7 @@ use Rattle.library_core.specs.Puts.{places_taken}
 abbrev pub is_fault : Reply → Bool
 is_fault NoMemory = true
 is_fault StoreFault = true
+is_fault (BlockChanged sequence) = true
 is_fault _ = false
 
 -- a book that stands behind the state's last entry, and in which little waits

@@ -1,5 +1,5 @@
 //! What a request reads of the journal, before anything is done. `answering.rt` does the request then.
-ghost use Rattle.std.specs.Prelude.{◌≡◌, ◌+◌, ◌-◌, ◌≤◌, ◌<◌, ◌^◌, ℕ, true, false, Some, None, [], length, IfOk, IfSome, IsErr, IsErrOf, OnSome};
+ghost use Rattle.std.specs.Prelude.{◌≡◌, ◌+◌, ◌-◌, ◌≤◌, ◌<◌, ◌^◌, ℕ, true, None, [], length, IfErr, IfOk, IfSome, IsErr, IsErrOf, OnOk};
 ghost use Rattle.std.specs.List.{AllByRecursion};
 ghost use Rattle.store_model.specs.Faults.{Rose};
 ghost use Rattle.joint_state.specs.Told.{IsTold};
@@ -117,9 +117,9 @@ fn read_between<S: Store>(
 {
     match journal.entries(contents.alloc(), store, from, to) {
         Ok(entries) => match judged(contents, from, to, entries) {
-            Some(stretch) => Ok(stretch),
-            None => Err(ReadFault::BlockChanged {
-                sequence: journal.block_of(from),
+            Ok(stretch) => Ok(stretch),
+            Err(sequence) => Err(ReadFault::BlockChanged {
+                sequence: journal.block_of(sequence),
             }),
         },
         Err(fault) => Err(fault_of(fault)),
@@ -141,39 +141,41 @@ fn fault_of(fault: BookFault) -> ReadFault
     }
 }
 
-/// What was read of these sequences, where it may be so: as many entries, with their numbers, that tell of records of their files. What a store that tells
-/// of its bytes gives always is.
-fn judged(contents: &Contents, from: u64, to: u64, entries: Vec<Entry>) -> Option<Stretch>
+/// What was read of these sequences, where it may be so: as many entries, with their numbers, that tell of records of their files; else the sequence of one
+/// that doesn't. What a store that tells of its bytes gives always is.
+fn judged(contents: &Contents, from: u64, to: u64, entries: Vec<Entry>) -> Result<Stretch, u64>
     requires order { from ≤ to }
     requires few { to + 1 < 2 ^ 64 }
-    ensures stretch { IfSome result (λ stretch. stretch ≡ entries_from from entries.items) }
-    ensures long { OnSome result (length entries.items ≡ to + 1 - from) }
-    ensures numbered { OnSome result (AreNumbered from entries.items) }
-    ensures told { OnSome result (AllByRecursion (IsTold contents.now.state.files) entries.items) }
-    ensures other { result ≡ None → length entries.items ≡ to + 1 - from → AreNumbered from entries.items → AllByRecursion (IsTold contents.now.state.files) entries.items → ⊥ }
+    ensures stretch { IfOk result (λ stretch. stretch ≡ entries_from from entries.items) }
+    ensures long { OnOk result (length entries.items ≡ to + 1 - from) }
+    ensures numbered { OnOk result (AreNumbered from entries.items) }
+    ensures told { OnOk result (AllByRecursion (IsTold contents.now.state.files) entries.items) }
+    ensures other { IsErr result → length entries.items ≡ to + 1 - from → AreNumbered from entries.items → AllByRecursion (IsTold contents.now.state.files) entries.items → ⊥ }
+    ensures least { IfErr result (λ sequence. from ≤ sequence) }
 {
     if entries.len() as u64 != to - from + 1 {
-        return None;
+        return Err(from);
     }
-    if !are_told(contents, entries.as_slice()) {
-        return None;
+    if let Some(at) = first_untold(contents, entries.as_slice()) {
+        return Err(from + at as u64);
     }
-    Stretch::new(from, entries)
+    Stretch::new(from, entries).ok_or(from)
 }
 
-/// Whether each entry that names a member which a file has tells of records of that file, at places that they may have.
-fn are_told(contents: &Contents, entries: &[Entry]) -> bool
-    ensures told { result ≡ true → AllByRecursion (IsTold contents.now.state.files) entries.now }
-    ensures other { result ≡ false → AllByRecursion (IsTold contents.now.state.files) entries.now → ⊥ }
+/// The place of the first entry that names a member which a file has and doesn't tell of records of that file, at places that they may have.
+fn first_untold(contents: &Contents, entries: &[Entry]) -> Option<usize>
+    ensures told { result ≡ None → AllByRecursion (IsTold contents.now.state.files) entries.now }
+    ensures other { IfSome result (λ at. AllByRecursion (IsTold contents.now.state.files) entries.now → ⊥) }
+    ensures there { IfSome result (λ at. at < length entries.now) }
 {
     let mut rest = entries;
     while let [entry, more @ ..] = rest {
         if !is_told(contents, entry) {
-            return false;
+            return Some(entries.len() - rest.len());
         }
         rest = more;
     }
-    true
+    None
 }
 
 /// What APYJRNCHG or RMVJRNCHG reads: its range with the entry before it, or from a last break of the member on, which is looked for from the journal's end.
