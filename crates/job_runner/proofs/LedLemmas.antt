@@ -274,7 +274,7 @@ module _ {S : Type 0} (tells : Type 0) (disk : S → Disk) (sources : List Named
         (IsLeft sources s first.book (call ∷ []) [] outcome) (called.moments s here told) (left-within forced)
 
   -- where the library stands behind the call
-  module _ (read : List Entry) (may : MayBeRead s read) (own : tells → read ≡ s.entries) (t : State) (reads : ComesReading sources read s call (Standing t))
+  module _ (read : List Entry) (may : MayBeRead s read) (own : tells → read ≡ s.entries) (t : State) (reads : ComesReading tells sources read s call (Standing t))
       (stands : Stands tells disk later t) where
     entries_are : length later.state.entries ≡ length t.entries
     entries_are = length-kept tells disk later t stands
@@ -284,14 +284,15 @@ module _ {S : Type 0} (tells : Type 0) (disk : S → Disk) (sources : List Named
     deposited (inl is) acknowledged = let same : length t.entries ≡ length behind = ap (λ (p : State × Reply). length p.0.entries) is in omega (arith, same)
     deposited (inr (same, wanting, needs)) acknowledged = absurd (not-answered sources s call (ap is_unanswered wanting) acknowledged)
 
-    grows-standing : (c : ComesReading sources read s call (Standing t)) → (more : List Entry) × (t.entries ≡ s.entries ++ more)
-    grows-standing (inl is) = let grows = called.grows s here read may.numbered in (grows.0, ap (λ (p : State × Reply). p.0.entries) is ∙ grows.1)
-    grows-standing (inr (same, wanting, needs)) = ([], ap (λ (x : State). x.entries) same ∙ sym (append-nil s.entries))
+    grows-standing : (c : ComesReading tells sources read s call (Standing t)) → (more : List Entry) × (t.entries ≡ s.entries ++ more)
+    grows-standing (inl (inl is)) = let grows = called.grows s here read may.numbered in (grows.0, ap (λ (p : State × Reply). p.0.entries) is ∙ grows.1)
+    grows-standing (inl (inr (same, wanting, needs))) = ([], ap (λ (x : State). x.entries) same ∙ sym (append-nil s.entries))
+    grows-standing (inr unread) = ([], ap (λ (x : State). x.entries) unread.same ∙ sym (append-nil s.entries))
 
     -- where the store tells of its bytes
     module _ (told : tells) where
       comes : Comes sources s call (Standing t)
-      comes = Comes-read sources read s call (Standing t) (own told) reads
+      comes = Comes-read tells sources read s call (Standing t) told (own told) reads
 
       ran : Runs sources (Standing s) (call ∷ []) (Standing t)
       ran = (running, Standing t, comes, refl)
@@ -366,7 +367,7 @@ module _ {S : Type 0} (tells : Type 0) (disk : S → Disk) (sources : List Named
     }
 
   -- where the store was at fault
-  module _ (read : List Entry) (may : MayBeRead s read) (own : tells → read ≡ s.entries) (entries : List Entry) (reads : ComesReading sources read s call (Failed entries))
+  module _ (read : List Entry) (may : MayBeRead s read) (own : tells → read ≡ s.entries) (entries : List Entry) (reads : ComesReading tells sources read s call (Failed entries))
       (failed : later.failed ≡ true) where
     grows-failed : (more : List Entry) × (entries ≡ s.entries ++ more)
     grows-failed = let grows = called.grows s here read may.numbered in (grows.0, reads.1 ∙ grows.1)
@@ -377,7 +378,7 @@ module _ {S : Type 0} (tells : Type 0) (disk : S → Disk) (sources : List Named
     -- where the store tells of its bytes
     module _ (told : tells) where
       comes-failed : Comes sources s call (Failed entries)
-      comes-failed = Comes-read sources read s call (Failed entries) (own told) reads
+      comes-failed = Comes-read tells sources read s call (Failed entries) told (own told) reads
 
       ran-failed : Runs sources (Standing s) (call ∷ []) (Failed entries)
       ran-failed = (running, Failed entries, comes-failed, refl)
@@ -422,6 +423,6 @@ module _ {S : Type 0} (tells : Type 0) (disk : S → Disk) (sources : List Named
       done : Goes tells disk sources later s call
       done = called.goes s here
 
-      by : (outcome : Outcome) → ComesReading sources done.read s call outcome → IsAt tells disk later outcome → Leads tells disk sources first later s (call ∷ [])
+      by : (outcome : Outcome) → ComesReading tells sources done.read s call outcome → IsAt tells disk later outcome → Leads tells disk sources first later s (call ∷ [])
       by (Standing t) comes stands = standing done.read done.may done.own t comes stands
       by (Failed entries) comes failed = ended done.read done.may done.own entries comes failed
