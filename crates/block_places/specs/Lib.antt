@@ -1,1 +1,5 @@
 pub mod Dues
+pub use Rattle.library_steps.specs.Change
+pub use Rattle.library_steps.specs.History
+pub use Rattle.library_steps.specs.State
+pub use Rattle.library_steps.specs.Step

@@ -16,10 +16,10 @@ use Rattle.library_steps.specs.State.{State, memory_of, job_at}
 use Rattle.library_steps.specs.Change.{changed}
 use Rattle.library_steps.specs.Step.{change, step}
 use Rattle.library_steps.specs.History.{is_running, Outcome, Standing, Failed, Comes, Runs}
-use Rattle.journal_fronts.specs.Deposits.{switches}
+use Rattle.library_core.specs.Deposits.{switches}
 use Rattle.library_core.specs.Parts.{LibraryOver}
 use Rattle.library_core.specs.Stands.{Stands, IsAt, ComesReading, Goes, whole_from}
-use Rattle.journal_fronts.specs.Fronts.{entries_at, entries_behind, HasSwitched, IsAcknowledged, IsWhole, HasAcknowledged}
+use Rattle.library_core.specs.Fronts.{entries_at, entries_behind, HasSwitched, IsAcknowledged, IsWhole, HasAcknowledged}
 use Rattle.memory_journal.proofs.BlankLemmas.{length-blanks}
 use Rattle.joint_state.specs.Sound.{MayBeRead}
 use Rattle.journal_model.specs.Journal.{AreNumbered}

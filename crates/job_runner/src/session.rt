@@ -8,7 +8,7 @@ ghost use Rattle.library_steps.specs.State.{State};
 ghost use Rattle.library_core.specs.Stands.{Stands};
 ghost use Rattle.job_runner.specs.Moments.{LeavesForced};
 ghost use Rattle.built_requests.specs.Built.{is_built};
-ghost use Rattle.journal_fronts.specs.Deposits.{AreShort};
+ghost use Rattle.library_core.specs.Deposits.{AreShort};
 ghost use Rattle.library_model.specs.Ending.{is_end_job};
 ghost use Rattle.job_runner.specs.declared.session.Stepped.TheVariants.{Called, Ended, Stopped};
 ghost use Rattle.job_runner.specs.declared.session.Stepped.TheVariants as stepped;

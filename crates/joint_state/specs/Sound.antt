@@ -4,7 +4,7 @@ use Rattle.std.specs.List.{AllByRecursion, IsDistinct}
 use Rattle.std.specs.Map.{keys_of}
 use Rattle.entry_codec.specs.declared.entries.Entry.{Entry}
 use Rattle.lawful_states.specs.Owners.{AreApart}
-use Rattle.journal_model.specs.Journal.{AreNumbered}
+use Rattle.journaled_entries.specs.Journal.{AreNumbered}
 use Rattle.library_model.specs.Named.{same_name}
 use Rattle.library_model.specs.NeedsMemory.{needs_memory}
 use Rattle.library_model.specs.declared.replies.Reply.{Reply}

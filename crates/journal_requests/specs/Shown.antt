@@ -2,8 +2,8 @@
 use Rattle.std.specs.Prelude.{◌≡◌, Result, Ok, Err}
 use Rattle.std.specs.Borrow.{Bor}
 use Rattle.library_model.specs.declared.replies.Reply.{Reply}
-use Rattle.library_parts.specs.declared.stop.Stop.{Stop}
-use Rattle.library_parts.specs.declared.stop.Stop.TheVariants.{NoMemory, Refused}
+use Rattle.library_parts.below.parts_model.specs.declared.stop.Stop.{Stop}
+use Rattle.library_parts.below.parts_model.specs.declared.stop.Stop.TheVariants.{NoMemory, Refused}
 
 -- what is wanted is shown in its place, or the first refusal that holds is answered, or want of memory
 abbrev pub MayShow : {A : Type 0} → Result (Bor A) Stop → Result A Reply → Type 0

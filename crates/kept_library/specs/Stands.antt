@@ -6,10 +6,10 @@ use Rattle.library_model.specs.declared.calls.Call.{Call}
 use Rattle.library_model.specs.declared.replies.Reply.TheVariants.{StoreFault}
 use Rattle.library_model.specs.declared.requests.Request.{Request}
 use Rattle.library_model.specs.declared.sources.NamedSource.{NamedSource}
-use Rattle.library_steps.specs.State.{State, job_at, memory_of}
-use Rattle.library_steps.specs.Change.{changed}
-use Rattle.library_steps.specs.Step.{change}
-use Rattle.library_steps.specs.History.{is_running, Outcome, Standing, Failed}
+use Rattle.block_places.specs.State.{State, job_at, memory_of}
+use Rattle.block_places.specs.Change.{changed}
+use Rattle.block_places.specs.Step.{change}
+use Rattle.block_places.specs.History.{is_running, Outcome, Standing, Failed}
 use Rattle.deposited_entries.specs.Deposits.{switches}
 use Rattle.joint_state.specs.Sound.{MayBeRead, MayAnswerReading}
 use Rattle.kept_library.specs.Journaled.{IsRemembered}

@@ -4,7 +4,7 @@ use Rattle.library_model.specs.declared.calls.Call.{Call}
 use Rattle.library_model.specs.declared.replies.Reply.TheVariants.{BlockChanged}
 use Rattle.library_model.specs.declared.requests.Request.{Request}
 use Rattle.library_model.specs.declared.requests.Request.TheVariants.{DisplayJournal, ApplyChanges, RemoveChanges}
-use Rattle.library_steps.specs.State.{State}
+use Rattle.block_places.specs.State.{State}
 
 -- DSPJRN, APYJRNCHG and RMVJRNCHG
 abbrev pub reads_journal : Request → Bool

@@ -4,7 +4,7 @@
 ghost use Rattle.std.specs.Prelude.{◌≡◌, ◌+◌, false, length, take};
 ghost use Rattle.store_model.specs.Disk.{Areas, May};
 ghost use Rattle.journal_book.specs.Kept.{SpellEntries};
-ghost use Rattle.library_steps.specs.State.{State};
+ghost use Rattle.block_places.specs.State.{State};
 ghost use Rattle.kept_library.specs.Journaled.{IsRemembered};
 ghost use Rattle.kept_library.specs.Stands.{Stands};
 
@@ -23,7 +23,7 @@ pub struct KeptLibrary<S: Store> {
 
 impl<S: Store> Model for KeptLibrary<S> {
     ghost use Rattle.std.specs.Prelude.{false};
-    ghost use Rattle.library_steps.specs.State.{State};
+    ghost use Rattle.block_places.specs.State.{State};
     ghost use Rattle.kept_library.specs.Journaled.{IsRemembered};
     ghost use Rattle.kept_library.specs.Parts.{LibraryOver};
 

@@ -27,11 +27,11 @@ use Rattle.library_steps.specs.Step.{change}
 use Rattle.memory_journal.specs.Blanks.{in_memory}
 use Rattle.commitment_requests.specs.Answers.{Answers}
 use Rattle.commitment_requests.specs.Remembered.{remembered}
-use Rattle.commitment_requests.below.library_parts.specs.declared.stop.Stop.{Stop}
-use Rattle.commitment_requests.below.library_parts.specs.declared.stop.Stop.TheVariants as stop
+use Rattle.commitment_requests.below.parts_model.specs.declared.stop.Stop.{Stop}
+use Rattle.commitment_requests.below.parts_model.specs.declared.stop.Stop.TheVariants as stop
 use Rattle.journal_fronts.specs.Deposits.{AreShort, switches}
 use Rattle.forced_calls.proofs.ForcedLemmas.{asked}
-use Rattle.joint_state.specs.Sound.{Does, IsSound, MayBeRead, after}
+use Rattle.record_changes.specs.Sound.{Does, IsSound, MayBeRead, after}
 use Rattle.sound_histories.proofs.HistoryLemmas.{ReadingsStaySound}
 use Rattle.store_model.specs.Faults.{Rose}
 use Rattle.kept_library.specs.Unread.{reads_journal}

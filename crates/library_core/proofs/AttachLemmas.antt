@@ -32,10 +32,10 @@ use Rattle.library_steps.specs.Step.{change}
 use Rattle.library_steps.specs.declared.limits.TheConstants.{LAST_RECEIVER, LAST_SEQUENCE}
 use Rattle.commitment_requests.specs.Answers.{Answers, Gives, reply_of}
 use Rattle.commitment_requests.specs.Remembered.{remembered}
-use Rattle.commitment_requests.below.library_parts.specs.declared.stop.Stop.{Stop}
-use Rattle.commitment_requests.below.library_parts.specs.declared.stop.Stop.TheVariants as stop
-use Rattle.joint_state.specs.Sound.{Does, IsSound, MayBeRead, after}
-use Rattle.joint_state.proofs.ReadLemmas.{own-read}
+use Rattle.commitment_requests.below.parts_model.specs.declared.stop.Stop.{Stop}
+use Rattle.commitment_requests.below.parts_model.specs.declared.stop.Stop.TheVariants as stop
+use Rattle.record_changes.specs.Sound.{Does, IsSound, MayBeRead, after}
+use Rattle.record_changes.proofs.ReadLemmas.{own-read}
 use Rattle.sound_histories.proofs.HistoryLemmas.{ReadingsStaySound}
 use Rattle.kept_library.specs.Journaled.{IsBookOf, IsJournaled}
 use Rattle.library_core.specs.Laws.{DepositsStay, EntriesAreSpelled, HasPlaces, PlacesLast}

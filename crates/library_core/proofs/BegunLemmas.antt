@@ -5,11 +5,11 @@ use Rattle.lock_table.specs.declared.lock.Lock.{Lock}
 use Rattle.lawful_states.proofs.LawfulLemmas.{AllByRecursion-append, AreOne-new_job}
 use Rattle.library_steps.specs.Ranges.{library_bytes}
 use Rattle.library_steps.specs.State.{JobState, OpenState, State, begun, job_at, memory_of, new_job, or_new}
-use Rattle.joint_state.specs.Agreed.{StaysJournaled}
-use Rattle.joint_state.specs.CurrentRecords.{AllCurrentStand, CurrentStands}
-use Rattle.joint_state.specs.Joint.{IsJoint, JobStands}
-use Rattle.joint_state.specs.Locks.{HasOpenOf, LockStands}
-use Rattle.joint_state.specs.Sound.{IsSound}
+use Rattle.record_changes.specs.Agreed.{StaysJournaled}
+use Rattle.record_changes.specs.CurrentRecords.{AllCurrentStand, CurrentStands}
+use Rattle.record_changes.specs.Joint.{IsJoint, JobStands}
+use Rattle.record_changes.specs.JointStateLocks.{HasOpenOf, LockStands}
+use Rattle.record_changes.specs.Sound.{IsSound}
 
 each-so : {X : Type 0} (P Q : X → Type 0) (xs : List X) → ((x : X) → P x → Q x) → AllByRecursion P xs → AllByRecursion Q xs
 each-so P Q [] so all = tt

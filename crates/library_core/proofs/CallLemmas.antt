@@ -14,11 +14,11 @@ use Rattle.library_steps.specs.State.{State, memory_of, job_at}
 use Rattle.library_steps.specs.Change.{Change, changed}
 use Rattle.library_steps.specs.History.{is_running}
 use Rattle.library_steps.specs.Step.{change}
-use Rattle.joint_state.specs.Sound.{IsSound, MayAnswerReading, MayBeRead}
+use Rattle.record_changes.specs.Sound.{IsSound, MayAnswerReading, MayBeRead}
 use Rattle.sound_histories.proofs.HistoryLemmas.{ReadingsStaySound}
 use Rattle.commitment_requests.specs.Answers.{Answers, reply_of}
-use Rattle.commitment_requests.below.library_parts.specs.declared.stop.Stop.{Stop}
-use Rattle.commitment_requests.below.library_parts.specs.declared.stop.Stop.TheVariants as stop
+use Rattle.commitment_requests.below.parts_model.specs.declared.stop.Stop.{Stop}
+use Rattle.commitment_requests.below.parts_model.specs.declared.stop.Stop.TheVariants as stop
 use Rattle.library_core.specs.Running.{runs_after}
 use Rattle.library_core.proofs.RunLemmas.{runs-on}
 use Rattle.library_core.proofs.StepLemmas.{Leaves, change-leaves}

@@ -14,7 +14,7 @@ use Rattle.journal_book.proofs.Numbering.{numbered_back, numbered_front}
 use Rattle.journal_model.specs.Journal.{AreNumbered}
 use Rattle.journal_reads.specs.Stretches.{EntriesFrom, entries_from}
 use Rattle.library_steps.specs.State.{State, memory_of}
-use Rattle.joint_state.specs.Told.{IsTold}
+use Rattle.record_changes.specs.Told.{IsTold}
 use Rattle.kept_library.specs.Journaled.{IsRemembered}
 use Rattle.library_core.specs.Reads.{IsReadOf}
 use Rattle.library_core.proofs.MemoryLemmas.{length-remembered}

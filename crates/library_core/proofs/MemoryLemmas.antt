@@ -22,8 +22,8 @@ use Rattle.library_steps.specs.Change.{Change}
 use Rattle.library_steps.specs.Step.{change}
 use Rattle.commitment_requests.specs.Answers.{Answers}
 use Rattle.commitment_requests.specs.Remembered.{remembered}
-use Rattle.commitment_requests.below.library_parts.specs.declared.stop.Stop.{Stop}
-use Rattle.joint_state.specs.Sound.{after}
+use Rattle.commitment_requests.below.parts_model.specs.declared.stop.Stop.{Stop}
+use Rattle.record_changes.specs.Sound.{after}
 
 -- ---- what the memory says
 

@@ -20,9 +20,9 @@ use Rattle.library_steps.specs.State.{Memory, State, job_at, memory_of}
 use Rattle.library_steps.specs.Change.{Change, changed}
 use Rattle.library_steps.specs.History.{is_running}
 use Rattle.library_steps.specs.Step.{change}
-use Rattle.commitment_requests.below.library_parts.specs.declared.stop.Stop.{Stop}
-use Rattle.commitment_requests.below.library_parts.specs.declared.stop.Stop.TheVariants as stop
-use Rattle.joint_state.specs.Sound.{IsSound, MayBeRead, after}
+use Rattle.commitment_requests.below.parts_model.specs.declared.stop.Stop.{Stop}
+use Rattle.commitment_requests.below.parts_model.specs.declared.stop.Stop.TheVariants as stop
+use Rattle.record_changes.specs.Sound.{IsSound, MayBeRead, after}
 use Rattle.sound_histories.proofs.HistoryLemmas.{ReadingsStaySound}
 use Rattle.kept_library.specs.Journaled.{IsJournaled}
 use Rattle.library_core.specs.Laws.{is_fault}

@@ -13,8 +13,8 @@ use Rattle.library_model.specs.declared.calls.Call.{Call}
 use Rattle.library_model.specs.declared.requests.Request.{Request}
 use Rattle.library_model.specs.declared.sources.NamedSource.{NamedSource}
 use Rattle.library_steps.specs.State.{State}
-use Rattle.joint_state.specs.Sound.{IsSound, MayBeRead}
-use Rattle.joint_state.proofs.ReadLemmas.{own-read}
+use Rattle.record_changes.specs.Sound.{IsSound, MayBeRead}
+use Rattle.record_changes.proofs.ReadLemmas.{own-read}
 use Rattle.journal_reads.specs.Stretches.{EntriesFrom, IsStretchOf, entries_from}
 use Rattle.journal_model.specs.Journal.{AreNumbered}
 use Rattle.commitment_requests.specs.Remembered.{remembered}

@@ -8,8 +8,8 @@ use Rattle.journal_model.specs.Journal.{AreNumbered}
 use Rattle.journal_reads.specs.Stretches.{entries_from}
 use Rattle.lawful_states.proofs.LawfulLemmas.{AllByRecursion-append}
 use Rattle.library_steps.specs.State.{State}
-use Rattle.joint_state.specs.Sound.{IsSound}
-use Rattle.joint_state.specs.Told.{IsTold}
+use Rattle.record_changes.specs.Sound.{IsSound}
+use Rattle.record_changes.specs.Told.{IsTold}
 use Rattle.library_core.specs.Reads.{IsReadOf}
 
 pub each-take : {X : Type 0} (P : X → Type 0) (n : ℕ) (xs : List X) → AllByRecursion P xs → AllByRecursion P (take n xs)

@@ -4,3 +4,5 @@ pub mod Laws
 pub mod Reads
 pub use Rattle.kept_library.specs.Parts
 pub use Rattle.kept_library.specs.Stands
+pub use Rattle.journal_fronts.specs.Deposits
+pub use Rattle.journal_fronts.specs.Fronts

@@ -20,10 +20,10 @@ use Rattle.library_steps.specs.History.{is_running}
 use Rattle.library_steps.specs.Step.{change}
 use Rattle.commitment_requests.specs.Answers.{reply_of}
 use Rattle.commitment_requests.specs.Remembered.{remembered}
-use Rattle.commitment_requests.below.library_parts.specs.declared.stop.Stop.{Stop}
+use Rattle.commitment_requests.below.parts_model.specs.declared.stop.Stop.{Stop}
 use Rattle.block_places.specs.Dues.{has_entries}
 use Rattle.forced_calls.specs.Forced.{is_forced}
-use Rattle.joint_state.specs.Sound.{IsSound, MayAnswerReading, MayBeRead}
+use Rattle.record_changes.specs.Sound.{IsSound, MayAnswerReading, MayBeRead}
 use Rattle.kept_library.specs.Journaled.{IsJournaled}
 use Rattle.library_core.specs.Running.{runs_after}
 use Rattle.kept_library.specs.Stands.{whole_from}

@@ -2,7 +2,7 @@
 use Rattle.std.specs.Prelude.{◌≡◌, ◌+◌, Result, Ok, Err, List}
 use Rattle.entry_codec.specs.declared.entries.Entry.{Entry}
 use Rattle.library_steps.specs.State.{State}
-use Rattle.joint_state.specs.Sound.{MayBeRead}
+use Rattle.record_changes.specs.Sound.{MayBeRead}
 use Rattle.journal_reads.specs.Stretches.{EntriesFrom, IsStretchOf}
 
 -- the stretch is a part of these entries, as which the journal of the state may be read; where the store tells, they are those that were deposited

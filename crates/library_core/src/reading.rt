@@ -2,7 +2,7 @@
 ghost use Rattle.std.specs.Prelude.{◌≡◌, ◌+◌, ◌-◌, ◌≤◌, ◌<◌, ◌^◌, ℕ, true, None, [], length, IfErr, IfOk, IfSome, IsErr, IsErrOf, OnOk};
 ghost use Rattle.std.specs.List.{AllByRecursion};
 ghost use Rattle.store_model.specs.Faults.{Rose};
-ghost use Rattle.joint_state.specs.Told.{IsTold};
+ghost use Rattle.record_changes.specs.Told.{IsTold};
 ghost use Rattle.entry_codec.specs.declared.entries.Entry.{Entry};
 ghost use Rattle.store_model.specs.Disk.{Stays};
 ghost use Rattle.library_model.specs.NeedsMemory.{needs_memory};

@@ -8,7 +8,7 @@ ghost use Rattle.journaled_entries.specs.Deposited.{is_of_record};
 ghost use Rattle.lawful_states.specs.Owners.{Owns};
 ghost use Rattle.library_model.specs.Named.{named};
 ghost use Rattle.library_steps.specs.State.{FileState, format_in, physical_in};
-ghost use Rattle.joint_state.specs.Told.{IsRecordOf, IsTold, MayHavePlace, NamesPlace, TellsRecord};
+ghost use Rattle.record_changes.specs.Told.{IsRecordOf, IsTold, MayHavePlace, NamesPlace, TellsRecord};
 
 use commitment_requests::library_parts::Contents;
 use entry_codec::{Entry, EntryKind};

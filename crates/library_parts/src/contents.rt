@@ -3,16 +3,16 @@
 ghost use Rattle.std.specs.Prelude.{◌≡◌, ◌+◌, ◌<◌, [], ◌∷◌, ◌++◌, length, IfOk, IsTrue, OnOk, OnErr};
 ghost use Rattle.library_steps.specs.History.{is_running};
 ghost use Rattle.library_steps.specs.State.{empty_library, job_at, job_of, memory_of, new_job};
-ghost use Rattle.library_parts.specs.Indexed.{ArePaths};
+ghost use Rattle.parts_model.specs.Indexed.{ArePaths};
 ghost use Rattle.lawful_states.specs.Lawful.{IsLibrary};
 
 use field_types::names::Name;
-use file_catalogue::Catalogue;
-use job_table::Jobs;
 use lock_table::LockTable;
 use member_slots::members::Members;
-use memory_journal::MemoryJournal;
-use path_set::set::PathSet;
+use parts_model::file_catalogue::Catalogue;
+use parts_model::job_table::Jobs;
+use parts_model::memory_journal::MemoryJournal;
+use parts_model::path_set::set::PathSet;
 use std::alloc::{AllocError, Global};
 use std::marker::Model;
 
@@ -35,10 +35,10 @@ pub struct Contents {
 }
 
 impl Model for Contents {
-    ghost use Rattle.library_parts.specs.Parts.{LibraryParts, joined, state_of};
+    ghost use Rattle.parts_model.specs.Parts.{LibraryParts, joined, state_of};
     ghost use Rattle.lawful_states.specs.Lawful.{AreOne};
-    ghost use Rattle.library_parts.specs.Due.{HasDue};
-    ghost use Rattle.library_parts.specs.Indexed.{IsIndexed};
+    ghost use Rattle.parts_model.specs.Due.{HasDue};
+    ghost use Rattle.parts_model.specs.Indexed.{IsIndexed};
 
     ghost Value = { LibraryParts };
 

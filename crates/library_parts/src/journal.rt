@@ -5,9 +5,9 @@ ghost use Rattle.library_steps.specs.Change.{deposited};
 ghost use Rattle.library_steps.specs.Receivers.{last_in, given_up};
 ghost use Rattle.library_steps.specs.State.{memory_of, with_entries};
 ghost use Rattle.journal_model.specs.Journal.{AreNumbered};
-ghost use Rattle.memory_journal.specs.declared.journal.TheConstants.{LAST_BEFORE_DEPOSIT};
-ghost use Rattle.memory_journal.specs.Blanks.{in_memory};
-ghost use Rattle.library_parts.specs.Remembered.{remembered};
+ghost use Rattle.parts_model.below.memory_journal.specs.declared.journal.TheConstants.{LAST_BEFORE_DEPOSIT};
+ghost use Rattle.parts_model.specs.Blanks.{in_memory};
+ghost use Rattle.parts_model.specs.Remembered.{remembered};
 
 use crate::contents::Contents;
 use entry_codec::{Draft, Entry};

@@ -5,71 +5,63 @@ ghost use Rattle.file_model.specs.KeyOrder.{merged_parts};
 ghost use Rattle.file_model.specs.Paths.{PathEntry};
 ghost use Rattle.file_model.specs.Positions.{Position, Reading, Start};
 ghost use Rattle.lawful_states.specs.Physical.{IsPhysical};
-ghost use Rattle.file_cursor.specs.CursorPosition.{entry_of};
-ghost use Rattle.key_order.specs.declared.widths.TheConstants.{MOST_POSITIONS};
-ghost use Rattle.key_order.specs.KeyFields.{ArePositions};
+ghost use Rattle.parts_model.specs.CursorPosition.{entry_of};
+ghost use Rattle.access_path.below.key_order.specs.declared.widths.TheConstants.{MOST_POSITIONS};
+ghost use Rattle.access_path.specs.KeyFields.{ArePositions};
 ghost use Rattle.key_spec.specs.declared.KeyPart.{KeyPart};
-ghost use Rattle.path_set.specs.MemberSteps.{is_over};
+ghost use Rattle.parts_model.specs.MemberSteps.{is_over};
 ghost use Rattle.member_slots.specs.Members.{NumberedMembers};
-ghost use Rattle.job_table.specs.Opens.{AllOfNumber, join_by, rows_in};
-ghost use Rattle.job_table.specs.Table.{job_of_number, orders_at};
+ghost use Rattle.parts_model.specs.Opens.{AllOfNumber, join_by, rows_in};
+ghost use Rattle.parts_model.specs.Table.{job_of_number, orders_at};
 ghost use Rattle.library_model.specs.Named.{named};
 ghost use Rattle.library_steps.specs.History.{is_running};
 ghost use Rattle.library_steps.specs.Reads.{at_format, bound_asked, open_changed, positioned, has_read, entry_found};
 ghost use Rattle.library_steps.specs.Records.{is_file_path, is_keyed, live_record, reading_of};
 ghost use Rattle.library_steps.specs.Refusals.{OpenedFile, opened_file};
 ghost use Rattle.library_steps.specs.State.{memory_of, job_at, open_named, with_job};
-ghost use Rattle.open_position.specs.OpenStand.{AreFormatKeys, IsEntryIn};
-ghost use Rattle.open_position.specs.Reads.{IsAskedOf, IsStandAt, asked_of, entry_hit, side_of, stood};
+ghost use Rattle.parts_model.specs.OpenStand.{AreFormatKeys, IsEntryIn};
+ghost use Rattle.parts_model.specs.OpenPositionReads.{IsAskedOf, IsStandAt, asked_of, entry_hit, side_of, stood};
 ghost use Rattle.library_steps.specs.LogicalFiles.{bases_in, bases_of};
-ghost use Rattle.logical_model.specs.Bases.{LogicalFile, PhysicalFile};
-ghost use Rattle.logical_model.specs.Formats.{has_key};
-ghost use Rattle.logical_model.specs.Readings.{has_numbers, join_in};
-ghost use Rattle.view_records.specs.Steps.{own_path};
-ghost use Rattle.library_parts.specs.Indexed.{AreNumbersOf, IsUnjoined, IsView, ReadsRowsBy, path_by};
-ghost use Rattle.job_table.specs.RowStand as rows;
-ghost use Rattle.dds_logical.specs.declared.views.LogicalSpec.TheVariants.{Join};
-ghost use Rattle.view_records.specs.KeyedViews.{IsKeyedJoin};
-ghost use Rattle.library_parts.specs.Finds.{OpensMembers, ReadsMember};
-ghost use Rattle.library_parts.specs.Reads.{CanNote, CanStand, CanStandAmong, CanStandIn, FindsEntry, GivesKey, HasKeyOf, IsAlongPath, IsInArrival, IsLookedIn, MayHaveKey, MayReadSo, Stands, TakesNumbers, ReadsAmong, ReadsAs, ReadsFor, ReadsNew, ReadsSo, formats_read, found_by, has_positions, orders_in, stood_at};
+ghost use Rattle.library_steps.specs.Bases.{LogicalFile, PhysicalFile};
+ghost use Rattle.library_steps.specs.Formats.{has_key};
+ghost use Rattle.library_steps.specs.Readings.{has_numbers, join_in};
+ghost use Rattle.parts_model.specs.Steps.{own_path};
+ghost use Rattle.parts_model.specs.Indexed.{AreNumbersOf, IsUnjoined, IsView, ReadsRowsBy, path_by};
+ghost use Rattle.parts_model.specs.RowStand as rows;
+ghost use Rattle.library_steps.below.dds_logical.specs.declared.views.LogicalSpec.TheVariants.{Join};
+ghost use Rattle.parts_model.specs.KeyedViews.{IsKeyedJoin};
+ghost use Rattle.parts_model.specs.Finds.{OpensMembers, ReadsMember};
+ghost use Rattle.parts_model.specs.Reads.{CanNote, CanStand, CanStandAmong, CanStandIn, FindsEntry, GivesKey, HasKeyOf, IsAlongPath, IsInArrival, IsLookedIn, MayHaveKey, MayReadSo, Stands, TakesNumbers, ReadsAmong, ReadsAs, ReadsFor, ReadsNew, ReadsSo, formats_read, found_by, has_positions, orders_in, stood_at};
 
 use crate::contents::Contents;
-use crate::finds::OpenFound;
-use crate::stop::Stop;
 use crate::texts::are_of_bytes;
+use access_path::key_order::given::{KeyFault, encode_values, key_fault};
 use access_path::paths::Paths;
-use dds_logical::LogicalSpec;
-use dds_logical::join_views::{JoinView, JoinedFile};
 use field_types::lists::ListOf;
 use field_types::names::Name;
 use field_types::texts::Image;
 use field_types::values::Value;
-use file_catalogue::{Described, File, FileBody};
-use file_cursor::places::{Hit, Order};
 use file_model::joins::Secondary;
 use file_model::paths::PathSpec;
-use job_table::join_position::position::JoinPosition;
-use job_table::{Jobs, Open, OpenReads, OpenRows, first_of};
-use key_order::given::{KeyFault, encode_values, key_fault};
 use key_pages::Key;
 use key_spec::{KeyPart, KeySpec};
 use key_values::laws::given_keys_are_read_back;
 use library_model::replies::Reply;
 use library_model::requests::{AccessPath, Limit, OpenFile};
+use library_steps::logical_model::dds_logical::LogicalSpec;
+use library_steps::logical_model::dds_logical::join_views::{JoinView, JoinedFile};
 use lock_table::Call;
 use member_paths::{member_path, path_positions};
 use member_slots::members::Members;
-use open_position::position::{OpenPosition, Side, StandAt};
-use open_position::reads::ReadBy;
-use path_set::set::PathSet;
+use parts_model::file_catalogue::{Described, File, FileBody};
+use parts_model::file_cursor::places::{Hit, Order};
+use parts_model::job_table::join_position::position::JoinPosition;
+use parts_model::job_table::{Jobs, Open, OpenReads, OpenRows, first_of};
+use parts_model::open_position::position::{OpenPosition, Side, StandAt};
+use parts_model::open_position::reads::ReadBy;
+use parts_model::path_set::set::PathSet;
+use parts_model::{Found, OpenFound, Stop};
 use std::alloc::{AllocError, Global};
-
-/// A record that a read found, and the format by which it is shown.
-#[derive(Clone, Copy)]
-pub struct Found {
-    pub format: u16,
-    pub rrn: u32,
-}
 
 impl Contents {
     /// How a new open reads: by its file's path, or in arrival order. It stands at the start.

@@ -2,11 +2,11 @@
 //! file, and the members that a logical file is over.
 ghost use Rattle.std.specs.Prelude.{◌≡◌, ℕ, ◌+◌, ◌<◌, ◌≤◌, not, if◌then◌else◌, Some, ◌++◌, ◌&&◌, ◌||◌, length, map, filter, take, slice_get, IfOk};
 ghost use Rattle.std.specs.List.{list_any};
-ghost use Rattle.dds_logical.specs.declared.views.LogicalSpec.TheVariants.{Join, Multi};
+ghost use Rattle.library_steps.below.dds_logical.specs.declared.views.LogicalSpec.TheVariants.{Join, Multi};
 ghost use Rattle.file_model.specs.declared.paths.PathSpec.{PathSpec};
-ghost use Rattle.logical_model.specs.Bases.{base_members, base_names};
-ghost use Rattle.logical_model.specs.FilePaths.{is_over, logical_paths};
-ghost use Rattle.logical_model.specs.SamePaths.{count_paths, same_path};
+ghost use Rattle.library_steps.specs.Bases.{base_members, base_names};
+ghost use Rattle.library_steps.specs.FilePaths.{is_over, logical_paths};
+ghost use Rattle.library_steps.specs.SamePaths.{count_paths, same_path};
 ghost use Rattle.library_steps.specs.CreateLogicalFile.{has_many};
 ghost use Rattle.library_steps.specs.declared.limits.TheConstants.{MOST_PATHS};
 ghost use Rattle.library_steps.specs.DeleteFile.{user_by};
@@ -15,21 +15,21 @@ ghost use Rattle.library_steps.specs.Refusals.{named_or_refused};
 ghost use Rattle.library_steps.specs.SlotChange.{status_among};
 ghost use Rattle.library_steps.specs.State.{file_named, memory_of};
 ghost use Rattle.library_steps.specs.Uses.{changer_of_any, user_of, user_of_any, user_of_logical};
-ghost use Rattle.job_table.specs.Users.{first_changer, least_of_members};
-ghost use Rattle.library_parts.specs.Answers.{Shows};
+ghost use Rattle.parts_model.specs.Users.{first_changer, least_of_members};
+ghost use Rattle.parts_model.specs.Answers.{Shows};
 
 use crate::contents::Contents;
-use crate::stop::Stop;
-use dds_logical::join_views::{JoinView, JoinedFile};
-use dds_logical::{LogicalSpec, View};
 use field_types::lists::ListOf;
 use field_types::names::Name;
-use file_catalogue::{File, MemberStatus, Members};
 use file_model::paths::PathSpec;
-use job_table::laws::{users_are_joined, view_users_are_joined};
-use job_table::lesser;
 use library_steps::limits::MOST_PATHS;
-use path_set::path_entrants::same::is_same;
+use library_steps::logical_model::dds_logical::join_views::{JoinView, JoinedFile};
+use library_steps::logical_model::dds_logical::{LogicalSpec, View};
+use parts_model::Stop;
+use parts_model::file_catalogue::{File, MemberStatus, Members};
+use parts_model::job_table::laws::{users_are_joined, view_users_are_joined};
+use parts_model::job_table::lesser;
+use parts_model::path_set::path_entrants::same::is_same;
 use std::alloc::AllocError;
 
 impl Contents {

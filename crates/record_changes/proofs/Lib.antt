@@ -9,3 +9,4 @@ mod OwnerLemmas
 mod PlaceLemmas
 mod ReadyLemmas
 mod WriteLemmas
+pub use Rattle.joint_state.proofs.ReadLemmas

@@ -1,7 +1,7 @@
 use Rattle.std.proofs.Common.{refl, rules}
 use Rattle.std.specs.Prelude.{IsErr, IsErrOf}
 use Rattle.receiver_chain.specs.declared.fault.ChainFault.TheVariants.{StoreFault}
-use Rattle.joint_state.proofs.ReadLemmas.{own-read}
+use Rattle.record_changes.proofs.ReadLemmas.{own-read}
 use Rattle.library_core.proofs.AnswerLemmas.{roomless-come, unread-come}
 use Rattle.library_core.proofs.JournalLemmas.{more-none}
 use Rattle.library_core.proofs.MemoryLemmas.{running-over}

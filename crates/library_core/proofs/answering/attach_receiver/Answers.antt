@@ -5,7 +5,7 @@ use Rattle.library_steps.specs.History.{is_running}
 use Rattle.library_steps.specs.Receivers.{attach_plan}
 use Rattle.library_steps.specs.State.{State, job_at, memory_of}
 use Rattle.commitment_requests.specs.Answers.{Gives}
-use Rattle.commitment_requests.below.library_parts.specs.declared.stop.Stop.{Stop}
+use Rattle.commitment_requests.below.parts_model.specs.declared.stop.Stop.{Stop}
 use Rattle.library_core.specs.Puts.{HasCome}
 use Rattle.library_core.proofs.AttachLemmas.{plan-over, room-come, unready-come}
 use Rattle.library_core.proofs.JournalLemmas.{more-remembered}

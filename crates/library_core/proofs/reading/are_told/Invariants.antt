@@ -1,6 +1,6 @@
 use Rattle.std.proofs.Common.{length}
 use Rattle.std.specs.List.{AllByRecursion}
-use Rattle.joint_state.specs.Told.{IsTold}
+use Rattle.record_changes.specs.Told.{IsTold}
 use Rattle.library_core.proofs.reading.are_told.Given as goal
 
 abbrev pub invariant-loop-rest : goal.invariant-loop-rest

@@ -1,28 +1,28 @@
 use Rattle.std.proofs.Common.{◌≡◌, ◌∙◌, ◌++◌, ◌∷◌, [], ℕ, List, Option, Result, refl, sym, ap, subst}
 use Rattle.std.specs.Prelude.{All}
 use Rattle.std.proofs.lemmas.Result.{err_from_is_err_and}
-use Rattle.dds_logical.specs.declared.views.LogicalSpec.{LogicalSpec}
+use Rattle.library_steps.below.dds_logical.specs.declared.views.LogicalSpec.{LogicalSpec}
 use Rattle.file_model.specs.declared.paths.PathSpec.{PathSpec}
-use Rattle.path_set.specs.Repeated.{TellsRepeated}
-use Rattle.path_set.specs.Sharing.{CanBeKept}
-use Rattle.view_records.specs.KeyedViews.{HaveFewPairs}
-use Rattle.view_records.specs.Steps.{own_path}
+use Rattle.parts_model.specs.Repeated.{TellsRepeated}
+use Rattle.parts_model.specs.Sharing.{CanBeKept}
+use Rattle.parts_model.specs.KeyedViews.{HaveFewPairs}
+use Rattle.parts_model.specs.Steps.{own_path}
 use Rattle.file_model.specs.Paths.{repeated_in}
-use Rattle.logical_model.specs.Bases.{LogicalFile}
-use Rattle.logical_model.specs.FilePaths.{logical_paths}
+use Rattle.library_steps.specs.Bases.{LogicalFile}
+use Rattle.library_steps.specs.FilePaths.{logical_paths}
 use Rattle.library_model.specs.declared.replies.Reply.TheVariants.{DuplicateKey}
 use Rattle.library_steps.specs.CreateLogicalFile.{first_repeated}
 use Rattle.library_steps.specs.LogicalFiles.{bases_in, bases_of}
 use Rattle.library_steps.specs.Refusals.{refuse_with}
 use Rattle.library_steps.specs.State.{memory_of}
-use Rattle.library_parts.specs.declared.stop.Stop.{Stop}
-use Rattle.library_parts.specs.Answers.{MayAllow}
-use Rattle.library_parts.specs.Indexed.{rows_paths}
-use Rattle.library_parts.specs.Parts.{LibraryParts, state_of}
-use Rattle.library_parts.specs.PathChanges.{Attaches, AttachesNone}
+use Rattle.parts_model.specs.declared.stop.Stop.{Stop}
+use Rattle.parts_model.specs.Answers.{MayAllow}
+use Rattle.parts_model.specs.Indexed.{rows_paths}
+use Rattle.parts_model.specs.Parts.{LibraryParts, state_of}
+use Rattle.parts_model.specs.PathChanges.{Attaches, AttachesNone}
 use Rattle.lawful_states.proofs.FileLemmas.{AreOne-with_logical}
-use Rattle.library_parts.proofs.IndexFiles.{described-over, distinct-none, rows-can, view-can, view-repeated, view-tells, IsIndexed-with_view, IsIndexed-without_paths}
-use Rattle.library_parts.proofs.IndexLooks.{records-of}
+use Rattle.parts_model.proofs.IndexFiles.{described-over, distinct-none, rows-can, view-can, view-repeated, view-tells, IsIndexed-with_view, IsIndexed-without_paths}
+use Rattle.parts_model.proofs.IndexLooks.{records-of}
 use Rattle.library_parts.proofs.contents.Contents.add_view.Goals as goal
 
 pub attach_view-requires-clause-kept : goal.attach_view-requires-clause-kept

@@ -1,27 +1,27 @@
 use Rattle.std.proofs.Common.{ℕ, ◌≡◌, ◌∙◌, List, Some, IfSome, is_some, refl, sym, subst, ap}
 use Rattle.std.specs.Option.{option_map}
 use Rattle.key_spec.specs.declared.KeyPart.{KeyPart}
-use Rattle.file_cursor.specs.CursorPosition.{entry_of}
+use Rattle.parts_model.specs.CursorPosition.{entry_of}
 use Rattle.file_model.specs.KeyOrder.{merged_parts}
-use Rattle.open_position.specs.OpenStand.{IsEntryIn}
-use Rattle.open_position.specs.Reads.{IsAskedOf, asked_of, entry_hit}
-use Rattle.job_table.specs.Opens.{AllOfNumber, KeptOpen, OpenOrder}
-use Rattle.job_table.specs.Table.{orders_at}
+use Rattle.parts_model.specs.OpenStand.{IsEntryIn}
+use Rattle.parts_model.specs.OpenPositionReads.{IsAskedOf, asked_of, entry_hit}
+use Rattle.parts_model.specs.Opens.{AllOfNumber, KeptOpen, OpenOrder}
+use Rattle.parts_model.specs.Table.{orders_at}
 use Rattle.library_steps.specs.LogicalFiles.{bases_in}
 use Rattle.library_steps.specs.Reads.{entry_found, has_read}
 use Rattle.library_steps.specs.Records.{is_keyed, reading_of}
 use Rattle.library_steps.specs.Refusals.{OpenedFile}
 use Rattle.library_steps.specs.State.{memory_of}
-use Rattle.library_parts.specs.Indexed.{IsUnjoined}
-use Rattle.library_parts.specs.Parts.{state_of}
-use Rattle.library_parts.specs.Reads.{IsLookedIn, ReadsAmong, formats_read, found_by, has_positions}
-use Rattle.library_parts.proofs.DueLemmas.{HasDue-kept}
-use Rattle.library_parts.proofs.KeepReads.{keeps-read}
-use Rattle.library_parts.proofs.IndexOpens.{IsIndexed-has_read}
+use Rattle.parts_model.specs.Indexed.{IsUnjoined}
+use Rattle.parts_model.specs.Parts.{state_of}
+use Rattle.parts_model.specs.Reads.{IsLookedIn, ReadsAmong, formats_read, found_by, has_positions}
+use Rattle.parts_model.proofs.DueLemmas.{HasDue-kept}
+use Rattle.parts_model.proofs.KeepReads.{keeps-read}
+use Rattle.parts_model.proofs.IndexOpens.{IsIndexed-has_read}
 use Rattle.lawful_states.proofs.LawfulLemmas.{AreOne-open_at}
-use Rattle.library_parts.proofs.NoteLemmas.{same-open}
-use Rattle.library_parts.proofs.PlaceLemmas.{found-same, of-number}
-use Rattle.library_parts.proofs.ReadLemmas.{mapped-some, noted}
+use Rattle.parts_model.proofs.NoteLemmas.{same-open}
+use Rattle.parts_model.proofs.PlaceLemmas.{found-same, of-number}
+use Rattle.parts_model.proofs.ReadLemmas.{mapped-some, noted}
 use Rattle.library_parts.proofs.contents.Contents.note_read.Goals as goal
 
 pub found_open-its-requires-clause-named : goal.found_open-its-requires-clause-named

@@ -2,18 +2,18 @@ use Rattle.std.proofs.Common.{◌≡◌, ◌∙◌, ◌+◌, ◌*◌, ◌≤◌,
 use Rattle.std.specs.Prelude.{All}
 use Rattle.member_slots.specs.Member.{MemberState}
 use Rattle.member_slots.specs.Members.{member_of}
-use Rattle.path_set.specs.declared.moves.ImageChange.{ImageChange}
-use Rattle.path_set.specs.declared.moves.PathMove.{PathMove}
-use Rattle.path_set.specs.KeptPaths.{NumberedPaths}
-use Rattle.path_set.specs.ManyChanges.{TakeImages, change_in, moves_of_all}
-use Rattle.path_set.specs.RecordChanges.{HaveRoom, RecordChange}
+use Rattle.parts_model.below.path_set.specs.declared.moves.ImageChange.{ImageChange}
+use Rattle.parts_model.below.path_set.specs.declared.moves.PathMove.{PathMove}
+use Rattle.parts_model.specs.KeptPaths.{NumberedPaths}
+use Rattle.parts_model.specs.ManyChanges.{TakeImages, change_in, moves_of_all}
+use Rattle.parts_model.specs.RecordChanges.{HaveRoom, RecordChange}
 use Rattle.range_images.specs.Given.{AreInPlace}
-use Rattle.given_changes.specs.GivenChanges.{changes_given}
-use Rattle.job_table.specs.Table.{changes_held}
-use Rattle.library_parts.specs.Parts.{state_of}
-use Rattle.library_parts.proofs.GivenTakes.{given-asked, given-long, moves-and-room}
-use Rattle.library_parts.proofs.IndexPaths.{IsIndexed-roomier}
-use Rattle.library_parts.proofs.RemadeLemmas.{found-member}
+use Rattle.parts_model.specs.GivenChanges.{changes_given}
+use Rattle.parts_model.specs.Table.{changes_held}
+use Rattle.parts_model.specs.Parts.{state_of}
+use Rattle.parts_model.proofs.GivenTakes.{given-asked, given-long, moves-and-room}
+use Rattle.parts_model.proofs.IndexPaths.{IsIndexed-roomier}
+use Rattle.parts_model.proofs.RemadeLemmas.{found-member}
 use Rattle.library_parts.proofs.contents.Contents.prepare_given.Goals as goal
 
 pub image_changes-requires : goal.image_changes-requires

@@ -1,17 +1,17 @@
 use Rattle.std.proofs.Common.{ℕ, ◌≡◌, ◌∙◌, Ok, refl, sym, subst}
-use Rattle.logical_model.specs.Readings.{join_in}
-use Rattle.open_position.specs.Reads.{side_of}
-use Rattle.job_table.specs.OpenChanges.{CanStand, IsStood}
-use Rattle.job_table.specs.Opens.{AllOfNumber, OpenOrder}
-use Rattle.job_table.specs.Table.{orders_at}
+use Rattle.library_steps.specs.Readings.{join_in}
+use Rattle.parts_model.specs.OpenPositionReads.{side_of}
+use Rattle.parts_model.specs.OpenChanges.{CanStand, IsStood}
+use Rattle.parts_model.specs.Opens.{AllOfNumber, OpenOrder}
+use Rattle.parts_model.specs.Table.{orders_at}
 use Rattle.library_steps.specs.LogicalFiles.{bases_in}
 use Rattle.library_steps.specs.Reads.{bound_asked, positioned}
 use Rattle.library_steps.specs.Refusals.{OpenedFile}
 use Rattle.lawful_states.proofs.BaseLemmas.{OpenHolds-positioned}
-use Rattle.library_parts.proofs.DueLemmas.{HasDue-kept}
-use Rattle.library_parts.proofs.IndexOpens.{IsIndexed-positioned}
+use Rattle.parts_model.proofs.DueLemmas.{HasDue-kept}
+use Rattle.parts_model.proofs.IndexOpens.{IsIndexed-positioned}
 use Rattle.lawful_states.proofs.LawfulLemmas.{AreOne-open_changed}
-use Rattle.library_parts.proofs.PlaceLemmas.{found-same, is-place, of-number, placed-there, stand-can, stand-is}
+use Rattle.parts_model.proofs.PlaceLemmas.{found-same, is-place, of-number, placed-there, stand-can, stand-is}
 use Rattle.library_parts.proofs.contents.Contents.set_position.Goals as goal
 
 pub found_open-its-requires-clause-named : goal.found_open-its-requires-clause-named
