@@ -1,5 +1,5 @@
 -- How jobs begin in a library, and that each of them may make a call then and after each call that ends no job.
-use Rattle.std.proofs.Common.{◌≡◌, ◌≤◌, ◌<◌, ℕ, zero, suc, ◌+◌, ◌-◌, true, false, IsTrue, List, [], ◌∷◌, ◌++◌, length, map, slice_get, refl, sym, ◌∙◌, ap, subst, arith, length-append, ◌⊎◌, inl, inr}
+use Rattle.std.proofs.Common.{◌≡◌, ◌≤◌, ◌<◌, ℕ, zero, suc, ◌+◌, ◌-◌, true, false, IsTrue, List, [], ◌∷◌, ◌++◌, length, map, slice_get, refl, sym, ◌∙◌, ap, subst, arith, length-append, Result, Ok, Err, OnOk, OnErr}
 use Rattle.std.proofs.lemmas.List.{append-nil, append_assoc, length-map, map-append}
 use Rattle.std.proofs.lemmas.Bool.Decides.{nat_tests}
 use Rattle.library_model.specs.declared.requests.Request.{Request}
@@ -9,9 +9,9 @@ use Rattle.library_steps.specs.State.{State, JobState, job_at, new_job, begun}
 use Rattle.library_steps.specs.History.{is_running}
 use Rattle.deposited_entries.specs.Deposits.{AreShort}
 use Rattle.joint_state.specs.Sound.{IsSound}
-use Rattle.library_core.specs.Parts.{LibraryOver}
+use Rattle.kept_library.specs.Parts.{LibraryOver}
 use Rattle.library_core.specs.Running.{runs_after}
-use Rattle.library_core.specs.Stands.{IsReady}
+use Rattle.kept_library.specs.Stands.{IsReady}
 use Rattle.library_core.proofs.RunLemmas.{runs-on}
 use Rattle.bench.specs.Ready.{AreReady, HasBegun}
 
@@ -87,13 +87,15 @@ AreReady-begun count library sound before = record {
 
 -- ---- sources
 
--- one behind the others is as short, or none came
-pub short-added : (old new : List NamedSource) (source : NamedSource) → (new ≡ old) ⊎ (new ≡ old ++ source ∷ []) → length source.text + 64 ≤ 534773760 → AreShort old → AreShort new
-short-added old new source added short all = elim added [
-  | inl same ↦ subst AreShort (sym same) all
-  | inr more ↦ subst AreShort (sym more) (behind old all)
-]
+-- a source that was pushed is short as the others are, or there was no memory and none came
+pub short-pushed : {E : Type 0} (result : Result (Unit {0}) E) (old new : List NamedSource) (source : NamedSource) → OnOk result (new ≡ old ++ source ∷ []) → OnErr result (new ≡ old)
+    → length source.text + 64 ≤ 534773760 → AreShort old → AreShort new
+short-pushed {E = E} result old new source pushed unchanged short all = put result pushed unchanged
   where
     behind : (sources : List NamedSource) → AreShort sources → AreShort (sources ++ source ∷ [])
     behind [] none = (short, tt)
     behind (s ∷ sources) those = (those.0, behind sources those.1)
+
+    put : (r : Result (Unit {0}) E) → OnOk r (new ≡ old ++ source ∷ []) → OnErr r (new ≡ old) → AreShort new
+    put (Ok nothing) more same = subst AreShort (sym more) (behind old all)
+    put (Err fault) more same = subst AreShort (sym same) all

@@ -3,7 +3,7 @@ use Rattle.std.specs.Prelude.{◌≡◌, ◌≤◌, ℕ, false, IsTrue, List, []
 use Rattle.library_steps.specs.State.{State, job_at, begun}
 use Rattle.library_steps.specs.History.{is_running}
 use Rattle.joint_state.specs.Sound.{IsSound}
-use Rattle.library_core.specs.Parts.{LibraryOver}
+use Rattle.kept_library.specs.Parts.{LibraryOver}
 
 -- each job with one of the numbers 1 to `count` may make a call
 pub record AreReady {S : Type 0} (count : ℕ) (library : LibraryOver S) : Type 0 where

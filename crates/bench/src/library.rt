@@ -23,7 +23,6 @@ pub(crate) struct Bench {
 
 impl Model for Bench {
     ghost use Rattle.std.specs.Prelude.{◌≡◌, ℕ, false};
-    ghost use Rattle.answered_sources.specs.Answered.{AreAnswered};
     ghost use Rattle.deposited_entries.specs.Deposits.{AreShort};
     ghost use Rattle.bench.specs.Ready.{AreReady};
 
@@ -31,7 +30,7 @@ impl Model for Bench {
 
     ghost view = { λ b. b.jobs };
 
-    ghost invariant = { λ b. (b.library.failed ≡ false → AreReady b.jobs b.library) × AreAnswered b.sources × AreShort b.sources };
+    ghost invariant = { λ b. (b.library.failed ≡ false → AreReady b.jobs b.library) × AreShort b.sources };
 }
 
 impl Bench {
@@ -105,7 +104,7 @@ fn made_library(alloc: Global) -> Result<Library<MemoryStore>, AllocError>
         return Err(AllocError);
     }
     match open_library(alloc, store) {
-        Ok(library) => Ok(library),
+        Ok(library) => Ok(Library::of(library)),
         Err(_) => Err(AllocError),
     }
 }

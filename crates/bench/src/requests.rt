@@ -1,11 +1,9 @@
 //! The requests that are made, on one file and views of it.
 ghost use Rattle.std.specs.Prelude.{◌≡◌, false, IfOk, IsTrue};
-ghost use Rattle.answered_sources.specs.Answered.{AreAnswered};
 ghost use Rattle.deposited_entries.specs.Deposits.{AreShort};
 ghost use Rattle.built_requests.specs.Built.{is_built};
 ghost use Rattle.library_model.specs.Ending.{is_end_job};
 
-use answered_sources::add_answered;
 use commit_level::Level;
 use entry_codec::Images;
 use field_types::names::Name;
@@ -112,8 +110,7 @@ impl Asker {
 
     /// The sources of the file and of its views.
     pub(crate) fn sources(&self) -> Result<Sources, AllocError>
-        ensures answered { IfOk result (λ sources. AreAnswered sources) }
-        ensures short { IfOk result (λ sources. AreShort sources) }
+        ensures { IfOk result (λ sources. AreShort sources) }
     {
         let mut sources = Sources::new(self.alloc);
         self.add_source(&mut sources, self.name, SOURCE.as_bytes())?;
@@ -129,14 +126,13 @@ impl Asker {
     }
 
     fn add_source(&self, sources: &mut Sources, name: Name, text: &[u8]) -> Result<(), AllocError>
-        ensures answered { AreAnswered sources.old → AreAnswered sources.new }
-        ensures short { AreShort sources.old → AreShort sources.new }
+        ensures { AreShort sources.old → AreShort sources.new }
     {
         if text.len() > LONGEST_SOURCE {
             return Ok(());
         }
         let text = SourceText::from_slice(self.alloc, text)?;
-        add_answered(self.alloc, sources, NamedSource { name, text })
+        sources.push(NamedSource { name, text })
     }
 
     /// The source of a view that selects.

@@ -22,14 +22,15 @@ use Rattle.library_steps.specs.State.{Memory, FileState, MemberStatus, file_name
 use Rattle.library_steps.specs.LogicalFiles.{bases_in, bases_of}
 use Rattle.library_steps.specs.Records.{is_file_path}
 use Rattle.library_steps.specs.Refusals.{◌>>=◌, refuse_if, named_or_refused}
-use Rattle.library_steps.specs.Opens.{first_unjournaled, logical_members, may_commit_all, members_by, open_plan, physical_members}
+use Rattle.library_steps.specs.Opens.{first_unjournaled, logical_members, may_commit_all, may_not, members_by, open_plan, physical_members}
 use Rattle.library_parts.specs.Answers.{Allows, Shows}
 use Rattle.library_parts.specs.Finds.{OpensBy, OpensMembers}
-use Rattle.library_parts.specs.Indexed.{IsReadSo, IsUnjoined}
+use Rattle.library_parts.specs.Indexed.{IsReadSo}
 use Rattle.library_parts.specs.Reads.{MayReadSo}
 use Rattle.library_parts.specs.declared.stop.Stop.{Stop}
 use Rattle.library_parts.specs.declared.stop.Stop.TheVariants.{NoMemory, Refused}
 use Rattle.file_requests.specs.Opens.{GivesMembers, file_plan, view_opens}
+use Rattle.library_steps.specs.WriteRecord.{is_input}
 
 -- ---- first the file
 
@@ -129,28 +130,38 @@ three-then (Ok a) (Err reply) third members = refl
 three-then (Ok a) (Ok b) (Err reply) members = refl
 three-then (Ok a) (Ok b) (Ok c) members = refl
 
-logical-opens : (m : Memory) (job : ℕ) (args : OpenFile) (spec : LogicalSpec) → IsUnjoined (LogicalFile spec)
-    → logical_members m job args spec ≡ (view_opens m job args (base_members (bases_of m) spec) >>= λ _. Ok (base_members (bases_of m) spec))
-logical-opens m job args (Simple view) unjoined =
-    three-then (refuse_if (not (same_name args.member args.file)) (NoSuchName (Name args.member))) (refuse_if (not (is_file_path args.access_path)) WrongOpen)
-    (may_commit_all args.commit (base_members (bases_of m) (Simple view)) (job_of job m) m) (base_members (bases_of m) (Simple view))
-logical-opens m job args (Multi views) unjoined =
-    three-then (refuse_if (not (same_name args.member args.file)) (NoSuchName (Name args.member))) (refuse_if (not (is_file_path args.access_path)) WrongOpen)
-    (may_commit_all args.commit (base_members (bases_of m) (Multi views)) (job_of job m) m) (base_members (bases_of m) (Multi views))
-logical-opens m job args (Join view) unjoined = absurd unjoined
+logical-opens : (m : Memory) (job : ℕ) (args : OpenFile) (spec : LogicalSpec)
+    → logical_members m job args spec ≡ (view_opens m job args spec (base_members (bases_of m) spec) >>= λ _. Ok (base_members (bases_of m) spec))
+logical-opens m job args spec =
+    three-then (refuse_if (not (same_name args.member args.file)) (NoSuchName (Name args.member))) (refuse_if (may_not spec args) WrongOpen)
+    (may_commit_all args.commit (base_members (bases_of m) spec) (job_of job m) m) (base_members (bases_of m) spec)
+
+-- by its path
+file-path : (by_path : Bool) → not by_path ≡ false → IsTrue by_path
+file-path true may = refl
+file-path false may = absurd cc
+
+join-path : (by_path not_input commit : Bool) → (not by_path || not_input || commit) ≡ false → IsTrue by_path
+join-path true not_input commit may = refl
+join-path false not_input commit may = absurd cc
+
+pub opened-by : (spec : LogicalSpec) (args : OpenFile) → may_not spec args ≡ false → IsTrue (is_file_path args.access_path)
+opened-by (Simple view) args may = file-path (is_file_path args.access_path) may
+opened-by (Multi views) args may = file-path (is_file_path args.access_path) may
+opened-by (Join view) args may = join-path (is_file_path args.access_path) (not (is_input args.option)) args.commit may
 
 -- the same with the members as they were found
-module _ (m : Memory) (job : ℕ) (args : OpenFile) (spec : LogicalSpec) (members : List ℕ) (unjoined : IsUnjoined (LogicalFile spec)) (under : base_members (bases_of m) spec ≡ members) where
-  view-opens : (opens : Result Bool Reply) → view_opens m job args members ≡ opens → logical_members m job args spec ≡ (opens >>= λ _. Ok members)
+module _ (m : Memory) (job : ℕ) (args : OpenFile) (spec : LogicalSpec) (members : List ℕ) (under : base_members (bases_of m) spec ≡ members) where
+  view-opens : (opens : Result Bool Reply) → view_opens m job args spec members ≡ opens → logical_members m job args spec ≡ (opens >>= λ _. Ok members)
   view-opens opens is =
-      logical-opens m job args spec unjoined
-      ∙ ap (λ (ms : List ℕ). view_opens m job args ms >>= λ _. Ok ms) under
+      logical-opens m job args spec
+      ∙ ap (λ (ms : List ℕ). view_opens m job args spec ms >>= λ _. Ok ms) under
       ∙ ap (λ (r : Result Bool Reply). r >>= λ _. Ok members) is
 
-  pub logical-goes : view_opens m job args members ≡ Ok true → logical_members m job args spec ≡ Ok members
+  pub logical-goes : view_opens m job args spec members ≡ Ok true → logical_members m job args spec ≡ Ok members
   logical-goes is = view-opens (Ok true) is
 
-  pub logical-stopped : (stop : Stop) → Allows (Err stop) (view_opens m job args members) → GivesMembers (Err stop) (logical_members m job args spec)
+  pub logical-stopped : (stop : Stop) → Allows (Err stop) (view_opens m job args spec members) → GivesMembers (Err stop) (logical_members m job args spec)
   logical-stopped NoMemory allowed = tt
   logical-stopped (Refused reply) allowed = view-opens (Err reply) allowed
 

@@ -1,14 +1,14 @@
 -- How the plan of CRTLF ends with the keys, and what it leaves.
-use Rattle.std.proofs.Common.{◌≡◌, ◌∙◌, ◌≤◌, ℕ, Bool, true, false, nat_le, get_or, arith, Option, Some, None, Result, Ok, Err, IfOk, IfSome, OnOk, OnErr, List, [], ◌∷◌, length, if◌then◌else◌, refl, sym, ap, subst}
+use Rattle.std.proofs.Common.{◌≡◌, ◌∙◌, ◌≤◌, ℕ, Bool, true, false, nat_le, get_or, arith, Option, Some, None, Result, Ok, Err, IfOk, OnOk, OnErr, List, [], ◌∷◌, length, if◌then◌else◌, refl, sym, ap, subst, map, ◌||◌}
 use Rattle.std.specs.List.{list_any}
 use Rattle.std.specs.Option.{is_some, option_and_then}
 use Rattle.entry_codec.specs.declared.entries.Draft.{Draft}
 use Rattle.dds_source.specs.declared.faults.DdsFault.{DdsFault}
 use Rattle.dds_logical.specs.declared.views.LogicalSpec.{LogicalSpec}
-use Rattle.dds_logical.specs.declared.views.LogicalSpec.TheVariants.{Simple}
+use Rattle.dds_logical.specs.declared.views.LogicalSpec.TheVariants.{Join, Simple}
 use Rattle.dds_logical.specs.declared.views.View.{View}
-use Rattle.logical_model.specs.Bases.{Bases, LogicalFile, base_members}
-use Rattle.logical_model.specs.FilePaths.{logical_paths, views_path}
+use Rattle.logical_model.specs.Bases.{Bases, base_members}
+use Rattle.logical_model.specs.FilePaths.{logical_paths, secondary_of, views_path}
 use Rattle.library_model.specs.declared.limits.TheConstants.{MOST_FILES}
 use Rattle.library_model.specs.declared.requests.CreateLogicalFile.{CreateLogicalFile}
 use Rattle.library_model.specs.declared.sources.NamedSource.{NamedSource}
@@ -40,12 +40,15 @@ use Rattle.library_steps.specs.SlotChange.{status_among}
 use Rattle.library_steps.specs.Uses.{changer_of_any, unused}
 use Rattle.library_parts.specs.Answers.{Allows, Answers, Gives, MayAllow}
 use Rattle.library_parts.specs.Files.{IsNewView}
-use Rattle.library_parts.specs.Indexed.{IsUnjoined}
 use Rattle.library_parts.specs.declared.stop.Stop.{Stop}
 use Rattle.library_parts.specs.declared.stop.Stop.TheVariants.{NoMemory, Refused}
-use Rattle.draft_list.proofs.DepositLemmas.{Answers-left}
+use Rattle.library_parts.proofs.DepositLemmas.{Answers-left}
 use Rattle.file_requests.specs.Effects.{Deposits}
-use Rattle.file_requests.specs.Views.{IsUnjoinedSource, PlansView, allowed_by, done, keys_differ, may_stand, new_view, view_draft, view_named, view_of, view_plan}
+use Rattle.file_requests.specs.Views.{PlansView, allowed_by, done, keys_differ, may_stand, new_view, view_draft, view_named, view_of, view_plan}
+use Rattle.dds_logical.specs.declared.join_views.JoinView.{JoinView}
+use Rattle.dds_logical.specs.declared.join_views.JoinedFile.{JoinedFile}
+use Rattle.file_model.specs.declared.paths.PathSpec.{PathSpec}
+use Rattle.file_model.specs.Joins.{secondary_path}
 
 -- ---- the keys come last
 
@@ -100,33 +103,17 @@ described-by m name (Some t) plan is = by (logical_described m t) refl is
     by (Err fault) same is = absurd cc
     by (Ok spec) same is = subst (λ (p : NewLogical). logical_described m p.source ≡ Ok p.spec) (ok-equal (new_view t spec) plan is) same
 
-unjoined-by : (m : Memory) (name : List ℕ) (text : Option (List ℕ)) (plan : NewLogical) → IfSome text (λ t. IfOk (logical_described m t) (λ spec. IsUnjoined (LogicalFile spec)))
-    → (named_or_refused name text >>= λ t. view_of m t) ≡ Ok plan → IsUnjoined (LogicalFile plan.spec)
-unjoined-by m name None plan unjoined is = absurd cc
-unjoined-by m name (Some t) plan unjoined is = by (logical_described m t) unjoined is
-  where
-    by : (found : Result LogicalSpec DdsFault) → IfOk found (λ spec. IsUnjoined (LogicalFile spec)) → (logical_or_refused found >>= λ spec. Ok (new_view t spec)) ≡ Ok plan
-        → IsUnjoined (LogicalFile plan.spec)
-    by (Err fault) unjoined is = absurd cc
-    by (Ok spec) unjoined is = subst (λ (p : NewLogical). IsUnjoined (LogicalFile p.spec)) (ok-equal (new_view t spec) plan is) unjoined
-
 pub is-described : (sources : List NamedSource) (m : Memory) (source : List ℕ) (result : Result NewLogical Stop) → Gives result (view_named sources m source)
     → IfOk result (λ plan. logical_described m plan.source ≡ Ok plan.spec)
 unfolding view_named
 is-described sources m source (Ok plan) gives = described-by m source (text_of sources source) plan gives
 is-described sources m source (Err stop) gives = tt
 
-pub is-unjoined : (sources : List NamedSource) (m : Memory) (source : List ℕ) (result : Result NewLogical Stop) → IsUnjoinedSource sources m source → Gives result (view_named sources m source)
-    → IfOk result (λ plan. IsUnjoined (LogicalFile plan.spec))
-unfolding view_named
-is-unjoined sources m source (Ok plan) unjoined gives = unjoined-by m source (text_of sources source) plan unjoined gives
-is-unjoined sources m source (Err stop) unjoined gives = tt
-
 pub is-new : (s : State) (name : List ℕ) (result : Result NewLogical Stop) → OnOk result (named name s.files ≡ None) → IfOk result (λ plan. logical_described (memory_of s) plan.source ≡ Ok plan.spec)
-    → IfOk result (λ plan. IsUnjoined (LogicalFile plan.spec)) → IfOk result (λ plan. changer_of_any (base_members (bases_of (memory_of s)) plan.spec) (memory_of s) ≡ None)
+    → IfOk result (λ plan. changer_of_any (base_members (bases_of (memory_of s)) plan.spec) (memory_of s) ≡ None)
     → IfOk result (λ plan. IsNewView s name plan)
-is-new s name (Ok plan) absent described unjoined unchanged = record { absent = absent; described = described; unjoined = unjoined; unchanged = unchanged }
-is-new s name (Err stop) absent described unjoined unchanged = tt
+is-new s name (Ok plan) absent described unchanged = record { absent = absent; described = described; unchanged = unchanged }
+is-new s name (Err stop) absent described unchanged = tt
 
 pub new-kept : (old mid : State) (name : List ℕ) (plan made : NewLogical) → mid ≡ old → made ≡ plan → IsNewView old name plan → IsNewView mid name made
 new-kept old mid name plan made same is new = subst (λ (s : State). IsNewView s name made) (sym same) (subst (λ (p : NewLogical). IsNewView old name p) (sym is) new)
@@ -158,6 +145,21 @@ unique-one bases spec view is = one view.keys.unique ∙ sym (ap (λ (s : Logica
     one : (b : Bool) → b ≡ is_unique (views_path bases b (view ∷ []) ∷ [])
     one true = refl
     one false = refl
+
+-- of a join with those of its primary file
+secondaries-repeat : (bases : Bases) (files : List JoinedFile) → list_any (λ (path : PathSpec). path.unique) (map secondary_path (map (secondary_of bases) files)) ≡ false
+secondaries-repeat bases [] = refl
+secondaries-repeat bases (joined ∷ files) = secondaries-repeat bases files
+
+pub unique-join : (bases : Bases) (spec : LogicalSpec) (view : JoinView) → spec ≡ Join view → view.keys.unique ≡ is_unique (logical_paths bases spec)
+unique-join bases spec view is =
+    or-false view.keys.unique
+    ∙ sym (ap (λ (b : Bool). view.keys.unique || b) (secondaries-repeat bases view.secondaries))
+    ∙ sym (ap (λ (s : LogicalSpec). is_unique (logical_paths bases s)) is)
+  where
+    or-false : (b : Bool) → b ≡ (b || false)
+    or-false true = refl
+    or-false false = refl
 
 pub undone-first : (m : Memory) (members : List ℕ) → 1 ≤ length members → undone_number m (get_or members 0 0) ≡ first_undone m members
 undone-first m [] some = absurd (omega (arith, some))

@@ -4,7 +4,7 @@ use Rattle.entry_codec.specs.declared.entries.Draft.{Draft}
 use Rattle.library_model.specs.declared.replies.Reply.TheVariants.{Done}
 use Rattle.library_steps.specs.State.{State, Memory, memory_of}
 use Rattle.library_steps.specs.Change.{journaled}
-use Rattle.draft_list.specs.Deposits.{Leaves}
+use Rattle.library_parts.specs.Deposits.{Leaves}
 
 -- the effect on the memory, and the drafts as entries behind those that were there
 abbrev pub Deposits : (old new : State) → List Draft → (Memory → Memory) → Type 0

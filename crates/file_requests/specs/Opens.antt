@@ -9,11 +9,11 @@ use Rattle.library_model.specs.declared.replies.LimitKind.TheVariants.{Opens}
 use Rattle.library_model.specs.declared.replies.Missing.TheVariants.{Name}
 use Rattle.library_model.specs.Named.{same_name}
 use Rattle.library_steps.specs.State.{Memory, FileState, file_named, job_of, open_named}
-use Rattle.library_steps.specs.Records.{is_file_path}
 use Rattle.library_steps.specs.Refusals.{◌>>=◌, refuse_if, named_or_refused}
-use Rattle.library_steps.specs.Opens.{may_commit_all}
+use Rattle.library_steps.specs.Opens.{may_commit_all, may_not}
 use Rattle.library_parts.specs.declared.stop.Stop.{Stop}
 use Rattle.library_parts.specs.declared.stop.Stop.TheVariants.{NoMemory, Refused}
+use Rattle.dds_logical.specs.declared.views.LogicalSpec.{LogicalSpec}
 
 -- the file, where the job may have an open more under this name
 unfoldable pub file_plan : Memory → ℕ → OpenFile → Result FileState Reply
@@ -23,11 +23,11 @@ file_plan m job args = do
   file ← named_or_refused args.file (file_named args.file m)
   Ok file
 
--- a logical file is opened under its own name, by its path, and under commitment control where its bases are journaled
-abbrev pub view_opens : Memory → ℕ → OpenFile → (members : List ℕ) → Result Bool Reply
-view_opens m job args members = do
+-- a logical file is opened under its own name, by its path, and under commitment control where its bases are journaled; a join is read alone
+abbrev pub view_opens : Memory → ℕ → OpenFile → LogicalSpec → (members : List ℕ) → Result Bool Reply
+view_opens m job args spec members = do
   _ ← refuse_if (not (same_name args.member args.file)) (NoSuchName (Name args.member))
-  _ ← refuse_if (not (is_file_path args.access_path)) WrongOpen
+  _ ← refuse_if (may_not spec args) WrongOpen
   may_commit_all args.commit members (job_of job m) m
 
 -- the members that the plan has

@@ -1,12 +1,12 @@
 -- Whether CRTLF may make a logical file, but for equal keys, which come last; and what it makes. (CL reference, CRTLF.)
-use Rattle.std.specs.Prelude.{◌≡◌, ℕ, Bool, nat_le, Option, None, IfSome, IfOk, Result, Ok, Err, List, length, if◌then◌else◌}
+use Rattle.std.specs.Prelude.{◌≡◌, ℕ, Bool, nat_le, Option, None, Result, Ok, Err, List, length, if◌then◌else◌}
 use Rattle.std.specs.List.{list_any}
 use Rattle.std.specs.Option.{is_some}
 use Rattle.entry_codec.specs.declared.entries.Draft.{Draft}
 use Rattle.entry_codec.specs.declared.kinds.EntryKind.TheVariants.{FileCreated}
 use Rattle.entry_codec.specs.declared.kinds.FileKind.TheVariants.{Logical}
 use Rattle.dds_logical.specs.declared.views.LogicalSpec.{LogicalSpec}
-use Rattle.logical_model.specs.Bases.{LogicalFile, base_members}
+use Rattle.logical_model.specs.Bases.{base_members}
 use Rattle.logical_model.specs.FilePaths.{logical_paths}
 use Rattle.library_model.specs.declared.limits.TheConstants.{MOST_FILES}
 use Rattle.library_model.specs.declared.requests.CreateLogicalFile.{CreateLogicalFile}
@@ -22,13 +22,8 @@ use Rattle.library_steps.specs.Drafts.{author_of, library_draft}
 use Rattle.library_steps.specs.LogicalFiles.{bases_of}
 use Rattle.library_steps.specs.Refusals.{◌>>=◌, refuse_if, refuse_with, named_or_refused, sequences_left}
 use Rattle.library_steps.specs.Uses.{changer_of_any, unused}
-use Rattle.library_parts.specs.Indexed.{IsUnjoined}
 use Rattle.library_parts.specs.declared.stop.Stop.{Stop}
 use Rattle.library_parts.specs.declared.stop.Stop.TheVariants.{NoMemory, Refused}
-
--- so far the source describes no join
-abbrev pub IsUnjoinedSource : List NamedSource → Memory → (source : List ℕ) → Type 0
-IsUnjoinedSource sources m source = IfSome (text_of sources source) (λ text. IfOk (logical_described m text) (λ spec. IsUnjoined (LogicalFile spec)))
 
 -- ---- the refusals in their order
 

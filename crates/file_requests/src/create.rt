@@ -14,7 +14,6 @@ ghost use Rattle.file_requests.specs.Effects.{Deposits};
 ghost use Rattle.file_requests.specs.Sources.{created_draft, file_allowed, file_of};
 
 use dds_physical::PhysicalError;
-use draft_list::{Author, may_deposit, with_room};
 use entry_codec::{Draft, EntryKind, FileKind};
 use field_types::names::Name;
 use field_types::texts::SourceText;
@@ -23,7 +22,7 @@ use library_model::limits::{LAST_MEMBER, MOST_FILES};
 use library_model::replies::{LimitKind, Reply};
 use library_model::requests::CreatePhysicalFile;
 use library_model::sources::Sources;
-use library_parts::{Contents, Stop, no_such_name};
+use library_parts::{Author, Contents, Stop, may_deposit, no_such_name, with_room};
 use std::alloc::AllocError;
 
 /// A file that is to be added, and the entry that tells of it.

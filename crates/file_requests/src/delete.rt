@@ -6,15 +6,14 @@ ghost use Rattle.library_steps.specs.State.{FileState, job_at, memory_of};
 ghost use Rattle.library_steps.specs.History.{is_running};
 ghost use Rattle.library_steps.specs.DeleteFile.{delete_file, delete_plan, deleted, first_dependent, user_by};
 ghost use Rattle.library_parts.specs.Answers.{Answers, Shows};
-ghost use Rattle.library_parts.specs.PathChanges.{IsPathOfView};
+ghost use Rattle.library_parts.specs.PathChanges.{ArePathsOfView};
 ghost use Rattle.file_requests.specs.Effects.{Deposits};
 
-use draft_list::{Author, may_deposit, with_room};
 use entry_codec::{Draft, EntryKind};
 use file_catalogue::File;
 use library_model::replies::Reply;
 use library_model::requests::DeleteFile;
-use library_parts::{Contents, Stop};
+use library_parts::{Author, Contents, Stop, may_deposit, with_room};
 
 /// Deletes a file, a physical one with its members.
 pub fn delete_file(
@@ -30,8 +29,8 @@ pub fn delete_file(
     let author = Author::of(contents, job, timestamp);
     let kind = EntryKind::FileDeleted { name: args.file };
     let draft = with_room(contents, author.library_draft(kind))?;
-    let path = contents.view_path(&args.file)?;
-    apply_delete(contents, args, path, draft);
+    let paths = contents.view_paths(&args.file)?;
+    apply_delete(contents, args, paths.as_slice(), draft);
     Ok(Reply::Done)
 }
 
@@ -44,7 +43,7 @@ fn plan_delete<'a>(contents: &'a Contents, args: &DeleteFile) -> Result<&'a File
     ensures left { OnOk result ((memory_of contents.now.state).last_entry ≤ LAST_SEQUENCE) }
 {
     may_deposit(contents)?;
-    let file = contents.unjoined_file(&args.file)?;
+    let file = contents.file(&args.file)?;
     if let Some(name) = contents.first_dependent(&args.file) {
         return Err(Stop::Refused(Reply::Dependents { name }));
     }
@@ -54,15 +53,15 @@ fn plan_delete<'a>(contents: &'a Contents, args: &DeleteFile) -> Result<&'a File
     Ok(file)
 }
 
-fn apply_delete(contents: &mut Contents, args: &DeleteFile, path: Option<u64>, draft: Draft)
+fn apply_delete(contents: &mut Contents, args: &DeleteFile, paths: &[Option<u64>], draft: Draft)
     requires there { IsSome (named args.now.file contents.old.state.files) }
     requires alone { first_dependent args.now.file contents.old.state.files ≡ None }
     requires unused { (file : FileState) → named args.now.file contents.old.state.files ≡ Some file → user_by file.spec args.now.file file (memory_of contents.old.state) ≡ None }
-    requires path { IsPathOfView contents.old args.now.file path }
+    requires paths { ArePathsOfView contents.old args.now.file paths.now }
     requires room { 1 ≤ contents.old.room.entries }
     requires left { (memory_of contents.old.state).last_entry ≤ LAST_SEQUENCE }
     ensures { (file : FileState) → named args.now.file contents.old.state.files ≡ Some file → Deposits contents.old.state contents.new.state (draft ∷ []) (deleted args.now file) }
 {
-    let _file = contents.remove_file(args, path);
+    let _file = contents.remove_file(args, paths);
     let _sequence = contents.deposit(draft);
 }

@@ -11,12 +11,11 @@ ghost use Rattle.file_requests.specs.Records.{journaling_ended, journaling_start
 
 use crate::member_commands::plan_member;
 use crate::records::{drafts_of_start, record_count};
-use draft_list::{Author, deposit_all, reserve_all, with_room};
 use entry_codec::{Draft, EntryKind, Images};
 use file_catalogue::MemberStatus;
 use library_model::replies::Reply;
 use library_model::requests::{FileMember, StartJournaling};
-use library_parts::{Contents, Stop};
+use library_parts::{Author, Contents, Stop, deposit_all, reserve_all, with_room};
 
 // ---- STRJRNPF
 

@@ -19,14 +19,15 @@ ghost use Rattle.library_parts.specs.Rooms.{HasMemberRoom};
 ghost use Rattle.file_requests.specs.Effects.{Deposits};
 ghost use Rattle.file_requests.specs.Members.{kind_of, renumbering_of, slots_after};
 
-use draft_list::{Author, deposit_all, may_deposit, reserve_all, with_room};
 use entry_codec::{Draft, EntryKind};
 use field_types::names::Name;
 use file_catalogue::{File, MemberStatus};
 use library_model::limits::LAST_MEMBER;
 use library_model::replies::{LimitKind, Reply};
 use library_model::requests::FileMember;
-use library_parts::{Contents, MemberFound, Stop};
+use library_parts::{
+    Author, Contents, MemberFound, Stop, deposit_all, may_deposit, reserve_all, with_room,
+};
 use library_steps::limits::MOST_MEMBERS;
 use path_set::rebuilding::Rebuilt;
 use std::alloc::AllocError;

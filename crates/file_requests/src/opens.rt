@@ -1,7 +1,7 @@
 //! OPNDBF and CLOF.
 ghost use Rattle.std.specs.Prelude.{◌≡◌, ◌<◌, ℕ, [], ◌∷◌, Some, length, true, IfOk, IsErrOf, IsTrue, OnOk};
 ghost use Rattle.std.specs.Option.{is_some};
-ghost use Rattle.logical_model.specs.Bases.{LogicalFile, base_members};
+ghost use Rattle.logical_model.specs.Bases.{base_members};
 ghost use Rattle.lawful_states.specs.Owners.{has_number};
 ghost use Rattle.library_model.specs.Named.{named, same_name};
 ghost use Rattle.library_model.specs.declared.replies.Reply.TheVariants.{NotJournaled};
@@ -9,15 +9,16 @@ ghost use Rattle.library_model.specs.declared.limits.TheConstants.{MOST_OPENS};
 ghost use Rattle.library_steps.specs.State.{job_at, job_of, memory_of, open_named};
 ghost use Rattle.library_steps.specs.History.{is_running};
 ghost use Rattle.library_steps.specs.LogicalFiles.{bases_of};
-ghost use Rattle.library_steps.specs.Opens.{close_file, first_unjournaled, logical_members, may_commit, may_commit_all, members_by, open_file, open_plan, physical_members};
+ghost use Rattle.library_steps.specs.Opens.{close_file, first_unjournaled, logical_members, may_commit, may_commit_all, may_not, members_by, open_file, open_plan, physical_members};
 ghost use Rattle.library_steps.specs.Records.{is_file_path};
 ghost use Rattle.library_steps.specs.Refusals.{named_or_refused, refuse_with};
 ghost use Rattle.library_parts.specs.Answers.{Allows, Answers, Gives, Shows};
 ghost use Rattle.library_parts.specs.Finds.{OpensBy, OpensMembers};
-ghost use Rattle.library_parts.specs.Indexed.{IsReadSo, IsUnjoined};
+ghost use Rattle.library_parts.specs.Indexed.{IsReadSo};
 ghost use Rattle.library_parts.specs.Reads.{MayReadSo};
 ghost use Rattle.library_parts.specs.declared.stop.Stop.TheVariants.{NoMemory};
 ghost use Rattle.file_requests.specs.Opens.{GivesMembers, file_plan, view_opens};
+ghost use Rattle.library_steps.specs.WriteRecord.{is_input};
 
 use dds_logical::LogicalSpec;
 use field_types::lists::ListOf;
@@ -26,7 +27,7 @@ use file_catalogue::{File, MemberStatus};
 use job_table::LAST_OPEN;
 use library_model::limits::MOST_OPENS;
 use library_model::replies::{LimitKind, Reply};
-use library_model::requests::{AccessPath, OpenFile, OpenName};
+use library_model::requests::{AccessPath, OpenFile, OpenName, OpenOption};
 use library_parts::laws::effects_answer;
 use library_parts::{Contents, Stop, holder_of, no_such_name, record_of};
 use lock_table::Call;
@@ -69,7 +70,6 @@ fn plan_file<'a>(contents: &'a Contents, job: u32, args: &OpenFile) -> Result<&'
     ensures plan { Shows result (file_plan (memory_of contents.now.state) job args.now) }
     ensures few { OnOk result (length (job_of job (memory_of contents.now.state)).opens < MOST_OPENS) }
     ensures there { IfOk result (λ file. named args.now.file contents.now.state.files ≡ Some file.now) }
-    ensures unjoined { IfOk result (λ file. IsUnjoined file.now.spec) }
 {
     if has_open(contents, job, &args.open_id) {
         return Err(Stop::Refused(Reply::NameExists { name: args.open_id }));
@@ -81,7 +81,7 @@ fn plan_file<'a>(contents: &'a Contents, job: u32, args: &OpenFile) -> Result<&'
             number: MOST_OPENS as u64,
         }));
     }
-    let file = contents.unjoined_file(&args.file)?;
+    let file = contents.file(&args.file)?;
     Ok(file)
 }
 
@@ -92,8 +92,7 @@ fn members_to_open(
     args: &OpenFile,
     file: &File,
 ) -> Result<ListOf<u32>, Stop>
-    requires running { IsTrue (is_running (job_at job contents.now.state.jobs)) }
-    requires unjoined { IsUnjoined file.now.spec }
+    requires { IsTrue (is_running (job_at job contents.now.state.jobs)) }
     ensures plan { GivesMembers result (members_by file.now.spec (memory_of contents.now.state) job args.now file.now) }
     ensures opens { IfOk result (λ members. OpensBy contents.now.state.files members file.now file.now.spec) }
     ensures so { OnOk result (IsReadSo (is_file_path args.now.access_path) file.now.spec) }
@@ -146,31 +145,56 @@ fn view_members(
     args: &OpenFile,
     view: &LogicalSpec,
 ) -> Result<ListOf<u32>, Stop>
-    requires running { IsTrue (is_running (job_at job contents.now.state.jobs)) }
-    requires unjoined { IsUnjoined (LogicalFile view.now) }
+    requires { IsTrue (is_running (job_at job contents.now.state.jobs)) }
     ensures plan { GivesMembers result (logical_members (memory_of contents.now.state) job args.now view.now) }
     ensures over { IfOk result (λ members. base_members (bases_of (memory_of contents.now.state)) view.now ≡ members) }
     ensures by_path { OnOk result (IsTrue (is_file_path args.now.access_path)) }
 {
     let members = contents.members_under(view)?;
-    view_opens(contents, job, args, members.as_slice())?;
+    view_opens(contents, job, args, view, members.as_slice())?;
     Ok(members)
 }
 
-/// The refusal of an open of a logical file by another name, in arrival order, or under commitment control that it can't have.
-fn view_opens(contents: &Contents, job: u32, args: &OpenFile, members: &[u32]) -> Result<(), Stop>
+/// The refusal of an open of a logical file by another name, in a way in which it isn't read, or under commitment control that it can't have.
+fn view_opens(
+    contents: &Contents,
+    job: u32,
+    args: &OpenFile,
+    view: &LogicalSpec,
+    members: &[u32],
+) -> Result<(), Stop>
     requires { IsTrue (is_running (job_at job contents.now.state.jobs)) }
-    ensures allowed { Allows result (view_opens (memory_of contents.now.state) job args.now members.now) }
+    ensures allowed { Allows result (view_opens (memory_of contents.now.state) job args.now view.now members.now) }
     ensures by_path { OnOk result (IsTrue (is_file_path args.now.access_path)) }
 {
     if !has_own_name(args) {
         return Err(no_such_name(args.member));
     }
-    if !is_by_path(args) {
+    if may_not(view, args) {
         return Err(Stop::Refused(Reply::WrongOpen));
     }
     may_commit_all(contents, job, args.commit, members)?;
     Ok(())
+}
+
+/// It isn't read in arrival order; a join is read alone, and without commitment.
+fn may_not(view: &LogicalSpec, args: &OpenFile) -> bool
+    ensures { result ≡ may_not view.now args.now }
+{
+    match view {
+        LogicalSpec::Simple(_) => !is_by_path(args),
+        LogicalSpec::Multi(_) => !is_by_path(args),
+        LogicalSpec::Join(_) => !is_by_path(args) || !is_input(args) || args.commit,
+    }
+}
+
+fn is_input(args: &OpenFile) -> bool
+    ensures { result ≡ is_input args.now.option }
+{
+    match args.option {
+        OpenOption::Input => true,
+        OpenOption::All => false,
+    }
 }
 
 fn has_own_name(args: &OpenFile) -> bool

@@ -6,10 +6,9 @@ ghost use Rattle.library_steps.specs.Records.{live_record};
 ghost use Rattle.library_steps.specs.State.{memory_of};
 ghost use Rattle.file_requests.specs.Records.{count_at, drafts_at, start_drafts};
 
-use draft_list::Author;
 use entry_codec::{Draft, EntryKind, Images};
 use field_types::texts::Image;
-use library_parts::Contents;
+use library_parts::{Author, Contents};
 use std::alloc::AllocError;
 
 /// How many slots the member has.

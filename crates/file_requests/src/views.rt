@@ -1,6 +1,6 @@
 //! CRTLF.
 ghost use Rattle.std.specs.Prelude.{◌≡◌, ◌≤◌, None, [], ◌∷◌, Ok, IfOk, IsTrue, OnErr, OnOk, if◌then◌else◌};
-ghost use Rattle.logical_model.specs.Bases.{Bases, LogicalFile, base_members};
+ghost use Rattle.logical_model.specs.Bases.{Bases, base_members};
 ghost use Rattle.logical_model.specs.FilePaths.{logical_paths};
 ghost use Rattle.library_model.specs.Named.{named};
 ghost use Rattle.library_steps.specs.declared.limits.TheConstants.{LAST_SEQUENCE};
@@ -11,14 +11,12 @@ ghost use Rattle.library_steps.specs.LogicalFiles.{bases_of};
 ghost use Rattle.library_steps.specs.Uses.{changer_of_any};
 ghost use Rattle.library_parts.specs.Answers.{Allows, Answers, Gives, MayAllow};
 ghost use Rattle.library_parts.specs.Files.{IsNewView};
-ghost use Rattle.library_parts.specs.Indexed.{IsUnjoined};
 ghost use Rattle.library_parts.specs.Rooms.{HasFileRoom};
 ghost use Rattle.file_requests.specs.Effects.{Deposits};
-ghost use Rattle.file_requests.specs.Views.{IsUnjoinedSource, PlansView, allowed_by, done, keys_differ, may_stand, view_allowed, view_draft, view_named, view_of, view_plan};
+ghost use Rattle.file_requests.specs.Views.{PlansView, allowed_by, done, keys_differ, may_stand, view_allowed, view_draft, view_named, view_of, view_plan};
 
 use crate::create::has_file;
 use dds_logical::{LogicalFault, LogicalSpec};
-use draft_list::{Author, may_deposit, with_room};
 use entry_codec::{Draft, EntryKind, FileKind};
 use field_types::names::Name;
 use field_types::texts::SourceText;
@@ -27,7 +25,7 @@ use library_model::limits::MOST_FILES;
 use library_model::replies::{LimitKind, Reply};
 use library_model::requests::CreateLogicalFile;
 use library_model::sources::Sources;
-use library_parts::{Contents, Stop, no_such_name};
+use library_parts::{Author, Contents, Stop, may_deposit, no_such_name, with_room};
 use library_steps::limits::MOST_PATHS;
 use std::alloc::AllocError;
 
@@ -38,7 +36,7 @@ struct NewView {
     draft: Draft,
 }
 
-/// Makes a logical file. So far its source describes no join.
+/// Makes a logical file.
 pub fn create_logical_file(
     contents: &mut Contents,
     job: u32,
@@ -47,7 +45,6 @@ pub fn create_logical_file(
     args: &CreateLogicalFile,
 ) -> Result<Reply, Stop>
     requires running { IsTrue (is_running (job_at job contents.old.state.jobs)) }
-    requires unjoined { IsUnjoinedSource sources.now (memory_of contents.old.state) args.now.source }
     ensures answers { Answers contents.old.state contents.new.state result (create_logical_file sources.now (memory_of contents.old.state) job timestamp args.now) }
 {
     let described = plan_view(contents, sources, args)?;
@@ -74,7 +71,6 @@ fn plan_view(
     sources: &Sources,
     args: &CreateLogicalFile,
 ) -> Result<DescribedView, Stop>
-    requires { IsUnjoinedSource sources.now (memory_of contents.now.state) args.now.source }
     ensures plan { PlansView sources.now (memory_of contents.now.state) args.now result }
     ensures new { IfOk result (λ described. IsNewView contents.now.state args.now.file described) }
     ensures left { OnOk result ((memory_of contents.now.state).last_entry ≤ LAST_SEQUENCE) }
@@ -88,11 +84,9 @@ fn plan_but_keys(
     sources: &Sources,
     args: &CreateLogicalFile,
 ) -> Result<DescribedView, Stop>
-    requires { IsUnjoinedSource sources.now (memory_of contents.now.state) args.now.source }
     ensures plan { Gives result (view_plan sources.now (memory_of contents.now.state) args.now) }
     ensures absent { OnOk result (named args.now.file contents.now.state.files ≡ None) }
     ensures described { IfOk result (λ described. logical_described (memory_of contents.now.state) described.source ≡ Ok described.spec) }
-    ensures unjoined { IfOk result (λ described. IsUnjoined (LogicalFile described.spec)) }
     ensures unchanged { IfOk result (λ described. changer_of_any (base_members (bases_of (memory_of contents.now.state)) described.spec) (memory_of contents.now.state) ≡ None) }
     ensures left { OnOk result ((memory_of contents.now.state).last_entry ≤ LAST_SEQUENCE) }
 {
@@ -121,12 +115,10 @@ fn may_be_named(contents: &Contents, name: &Name) -> Result<(), Stop>
     Ok(())
 }
 
-/// What the source of that name describes, which is no join.
+/// What the source of that name describes.
 fn view_named(contents: &Contents, sources: &Sources, source: &Name) -> Result<DescribedView, Stop>
-    requires { IsUnjoinedSource sources.now (memory_of contents.now.state) source.now }
     ensures plan { Gives result (view_named sources.now (memory_of contents.now.state) source.now) }
     ensures described { IfOk result (λ described. logical_described (memory_of contents.now.state) described.source ≡ Ok described.spec) }
-    ensures unjoined { IfOk result (λ described. IsUnjoined (LogicalFile described.spec)) }
 {
     view_read(contents, sources, source)
 }
@@ -154,7 +146,6 @@ fn describe_view(contents: &Contents, text: &SourceText) -> Result<DescribedView
 
 /// The same refusals of what was described.
 fn described_may_stand(contents: &Contents, described: &DescribedView) -> Result<(), Stop>
-    requires { IsUnjoined (LogicalFile described.now.spec) }
     ensures allowed { MayAllow result (may_stand (memory_of contents.now.state) described.now.spec) }
     ensures unchanged { OnOk result (changer_of_any (base_members (bases_of (memory_of contents.now.state)) described.now.spec) (memory_of contents.now.state) ≡ None) }
 {
@@ -164,7 +155,6 @@ fn described_may_stand(contents: &Contents, described: &DescribedView) -> Result
 /// The refusal where one of its bases would have too many paths, an open commit cycle has changed a record of it, or a restart might bring
 /// equal keys back that may not be.
 fn may_stand(contents: &Contents, view: &LogicalSpec) -> Result<(), Stop>
-    requires { IsUnjoined (LogicalFile view.now) }
     ensures allowed { MayAllow result (may_stand (memory_of contents.now.state) view.now) }
     ensures unchanged { OnOk result (changer_of_any (base_members (bases_of (memory_of contents.now.state)) view.now) (memory_of contents.now.state) ≡ None) }
 {
@@ -194,10 +184,9 @@ fn allowed_by(many: bool, changer: Option<u32>, undone: Option<u32>) -> Result<(
     Ok(())
 }
 
-/// The member under a UNIQUE file that isn't journaled, and was changed since it was, with two records or more then. A file of several
-/// formats isn't unique.
+/// The member under a UNIQUE file that isn't journaled, and was changed since it was, with two records or more then: of a join the
+/// primary's. A file of several formats isn't unique.
 fn undone_under(contents: &Contents, view: &LogicalSpec) -> Result<Option<u32>, AllocError>
-    requires { IsUnjoined (LogicalFile view.now) }
     ensures { IfOk result (λ undone. undone ≡ (if is_unique (logical_paths (bases_of (memory_of contents.now.state)) view.now) then first_undone (memory_of contents.now.state) (base_members (bases_of (memory_of contents.now.state)) view.now) else None)) }
 {
     let members = contents.members_under(view)?;
@@ -223,13 +212,12 @@ fn undone_if(unique: bool, undone: Option<u32>) -> Option<u32>
 
 /// Whether its path may have no equal keys.
 fn is_unique(view: &LogicalSpec) -> bool
-    requires { IsUnjoined (LogicalFile view.now) }
     ensures { (bases : Bases) → result ≡ is_unique (logical_paths bases view.now) }
 {
     match view {
         LogicalSpec::Simple(view) => view.keys.unique,
         LogicalSpec::Multi(_) => false,
-        LogicalSpec::Join(_) => unreachable!(),
+        LogicalSpec::Join(view) => view.keys.unique,
     }
 }
 

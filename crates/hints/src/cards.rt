@@ -4,9 +4,6 @@ use crate::job_lines::JobLines;
 use crate::lines::{InputLine, card_before, is_card, section};
 use crate::names::name_hint;
 use crate::words::{first_word, has_word, in_capitals, next_word, trimmed, unindented};
-use answered_sources::is_answered;
-use field_types::texts::SourceText;
-use std::alloc::{AllocError, Global};
 use text_lines::lines::split_line;
 
 const CARDS: &[u8] = b"//DDS //JOB //SCHED //END";
@@ -17,34 +14,17 @@ const MOST_SOURCES: usize = 1_000;
 const MOST_JOBS: usize = 64;
 
 /// What is wrong with a line that begins as cards do.
-pub(crate) fn card_hint<'a>(
-    alloc: Global,
-    input: &'a [u8],
-    card: InputLine<'a>,
-) -> Result<Option<Hint<'a>>, AllocError> {
+pub(crate) fn card_hint<'a>(input: &'a [u8], card: InputLine<'a>) -> Option<Hint<'a>> {
     if let Some(hint) = word_hint(card.text) {
-        return Ok(Some(hint));
+        return Some(hint);
     }
     if let Some(hint) = earlier_hint(input, card) {
-        return Ok(Some(hint));
+        return Some(hint);
     }
     if let Some(hint) = open_block_hint(input, card.number) {
-        return Ok(Some(hint));
+        return Some(hint);
     }
-    if is_unanswered(alloc, card)? {
-        return Ok(Some(Hint::Plain(b"a join isn't built yet")));
-    }
-    Ok(number_hint(card.text))
-}
-
-/// Whether it is the card of a source that can't be made a file yet.
-fn is_unanswered(alloc: Global, card: InputLine<'_>) -> Result<bool, AllocError> {
-    if first_word(card.text).0 != b"//DDS".as_slice() {
-        return Ok(false);
-    }
-    let source = SourceText::from_slice(alloc, section(card.after))?;
-    let answered = is_answered(alloc, &source)?;
-    Ok(!answered)
+    number_hint(card.text)
 }
 
 /// What is left to be wrong with the card of a source or a job: that there are too many.

@@ -32,7 +32,7 @@ pub fn jobs_help(alloc: Global, input: &[u8], listing: &[u8]) -> Result<HelpText
         if let Some(end) = early_end(call_line(line)) {
             push_end(&mut help, end)?;
             let before = &listing[..listing.len().saturating_sub(rest.len())];
-            push_cause(&mut help, input, before, end)?;
+            push_cause(alloc, &mut help, input, before, end)?;
         }
         rest = after;
     }
@@ -80,13 +80,14 @@ fn push_end(help: &mut HelpText, end: EarlyEnd<'_>) -> Result<(), AllocError> {
 
 /// What a job ended by: after a refusal its last request and the reply, with the line of a source at fault, else the line that is to blame, or its reason alone.
 fn push_cause(
+    alloc: Global,
     help: &mut HelpText,
     input: &[u8],
     before: &[u8],
     end: EarlyEnd<'_>,
 ) -> Result<(), AllocError> {
     if end.reason == b"*ESCAPE".as_slice() {
-        return push_last_call(help, input, before, end.job);
+        return push_last_call(alloc, help, input, before, end.job);
     }
     if let Some(hint) = reason_hint(end.reason) {
         help.push_hint(&hint)?;
@@ -122,6 +123,7 @@ fn push_input_line(help: &mut HelpText, input: &[u8], number: u32) -> Result<(),
 
 /// The last call of a job in the front of a listing.
 fn push_last_call(
+    alloc: Global,
     help: &mut HelpText,
     input: &[u8],
     before: &[u8],
@@ -137,7 +139,7 @@ fn push_last_call(
     help.push(b"reply: ")?;
     help.push_cut(reply)?;
     help.end_line()?;
-    push_fault_line(help, input, request, reply)
+    push_fault_line(alloc, help, input, request, reply)
 }
 
 fn last_call<'a>(before: &'a [u8], job: &[u8]) -> Option<CallLine<'a>> {

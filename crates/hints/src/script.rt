@@ -112,7 +112,7 @@ fn push_part(
             b"//END is the last line: nothing is after it, not even an empty line",
         )),
         Part::AfterSchedule => help.push_hint(&Hint::Plain(b"the line after //SCHED is a card")),
-        Part::Card => push_card(alloc, help, input, line),
+        Part::Card => push_card(help, input, line),
         Part::Source(card) => push_source(alloc, help, card, line),
         Part::Statement(card) => push_statement(alloc, help, card, line),
     }
@@ -129,16 +129,11 @@ fn line_hint(line: &[u8]) -> Option<Hint<'_>> {
     }
 }
 
-fn push_card(
-    alloc: Global,
-    help: &mut HelpText,
-    input: &[u8],
-    line: InputLine<'_>,
-) -> Result<(), AllocError> {
+fn push_card(help: &mut HelpText, input: &[u8], line: InputLine<'_>) -> Result<(), AllocError> {
     if let Some(hint) = line_hint(line.text) {
         return help.push_hint(&hint);
     }
-    match card_hint(alloc, input, line)? {
+    match card_hint(input, line) {
         Some(hint) => help.push_hint(&hint),
         None => Ok(()),
     }

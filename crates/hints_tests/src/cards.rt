@@ -8,16 +8,6 @@ type Rows = &'static [(&'static [u8], u32, &'static str)];
 
 const CARDS: Rows = &[
     (
-        b"//DDS J\n     A          R JR                        JFILE(A B)\n//END\n",
-        1,
-        "//DDS J\nhint: a join isn't built yet\n",
-    ),
-    (
-        b"//DDS C\n     A          R C1                        PFILE(A)\n     A          R C2                        PFILE(B)\n//DDS J\n     A          R JR                        JFILE(A B)\n//END\n",
-        4,
-        "//DDS J\nhint: a join isn't built yet\n",
-    ),
-    (
         b"\xEF\xBB\xBF//JOB J1\n//END\n",
         1,
         "\\xEF\\xBB\\xBF//JOB J1\nhint: the input begins with a byte order mark (\\xEF\\xBB\\xBF): take it out\n",

@@ -39,6 +39,16 @@ const LISTINGS: &[(&[u8], &str)] = &[
     ),
 ];
 
+/// An input with a source whose line has an entry in a wrong column.
+const COLUMN_INPUT: &[u8] =
+    b"//DDS C\n     A         R CR\n//JOB J1\nCRTPF FILE(C) SRC(C)\n//END\n";
+
+const COLUMN_LISTING: &[u8] =
+    b"HISTORY\n1 J1 70 CRTPF FILE(C) SRC(C) => DdsFault LINE(1) COL(16) CAUSE(BadColumn)\n2 J1 71 ENDJOB REASON(*ESCAPE) LINE(4) => OK\nEND 2\n";
+
+const COLUMN_HELP: &str =
+    "job J1 ended with *ESCAPE at line 4\nrequest: CRTPF FILE(C) SRC(C)\nreply: DdsFault LINE(1) COL(16) CAUSE(BadColumn)\nline 2 of the input:\n     A         R CR\n....+....1....+....2....+....3....+....4....+....5....+....6....+....7....+....8\nhint: column 16: columns 8 to 16 stay blank; R, K, S, O or J stands in 17, and a name begins in 19\n";
+
 fn check_listings(
     rt: &impl Abort,
     alloc: Global,
@@ -53,6 +63,8 @@ fn check_listings(
 
 #[test]
 fn ended_jobs(rt: HostRuntime) -> Result<(), Fail> {
+    let help = jobs_help(rt.alloc(), COLUMN_INPUT, COLUMN_LISTING)?;
+    assert_eq!(rt; help.as_bytes(), COLUMN_HELP.as_bytes(), "a column");
     check_listings(&rt, rt.alloc(), LISTINGS)
 }
 

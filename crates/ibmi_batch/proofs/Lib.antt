@@ -1,3 +1,4 @@
+mod FrontLemmas
 mod OutcomeLemmas
 mod RunLemmas
 mod ShortLemmas

@@ -1,17 +1,21 @@
 -- What a library that was opened, and a session that ran over it, come to together.
-use Rattle.std.proofs.Common.{◌≡◌, ◌∙◌, ◌++◌, ℕ, inl, inr, true, false, List, [], length, refl, sym, ap, subst, arith}
+use Rattle.std.proofs.Common.{◌≡◌, ◌∙◌, ◌++◌, ℕ, inl, inr, true, false, IsTrue, List, [], length, refl, sym, ap, subst, arith}
+use Rattle.std.specs.List.{list_all}
 use Rattle.std.proofs.lemmas.List.{take_all}
 use Rattle.store_model.specs.Disk.{Disk, Leaves}
 use Rattle.store_model.specs.Faults.{Rose}
-use Rattle.store_model.proofs.Runs.{leaves_less, leaves_then}
 use Rattle.journal_opening.specs.declared.fault.OpenFault.{OpenFault}
 use Rattle.journal_opening.specs.declared.fault.OpenFault.TheVariants as fault
 use Rattle.library_model.specs.declared.calls.Call.{Call}
 use Rattle.library_steps.specs.State.{State, begun}
 use Rattle.library_steps.specs.History.{Outcome, Standing, Failed}
-use Rattle.library_core.specs.Fronts.{IsFront}
-use Rattle.library_core.specs.Parts.{LibraryOver}
-use Rattle.library_core.specs.Stands.{IsAt}
+use Rattle.joint_state.specs.Sound.{IsSound}
+use Rattle.replayed_histories.specs.Replayed.{IsReplayed}
+use Rattle.replayed_histories.specs.Unsaved.{AsksNoCheckpoint}
+use Rattle.front_laws.specs.Opens.{FrontsCanBeOpened}
+use Rattle.kept_library.specs.Parts.{LibraryOver}
+use Rattle.kept_library.specs.Stands.{IsAt}
+use Rattle.input_scripts.specs.Askable.{is_askable_script}
 use Rattle.input_scripts.specs.declared.Schedule.{Schedule}
 use Rattle.input_scripts.specs.declared.Schedule.TheVariants.{Jobs, RoundRobin}
 use Rattle.input_scripts.specs.declared.Scripts.{Scripts}
@@ -31,7 +35,8 @@ use Rattle.ibmi_batch.specs.declared.status.Status.TheVariants.{StoreFault}
 use Rattle.ibmi_batch.specs.Opening.{status_of}
 use Rattle.ibmi_batch.specs.Outcome.{HasRun, IsCutShort, IsStanding, RunOver, Writing}
 use Rattle.ibmi_batch.specs.Parts.{IsUnopened, RunsJobs, SessionRan}
-use Rattle.ibmi_batch.specs.Storing.{MayRun}
+use Rattle.ibmi_batch.specs.Storing.{IsKeptRun}
+use Rattle.ibmi_batch.proofs.FrontLemmas.{no-checkpoint, run-acknowledged, run-answered, run-moments}
 use Rattle.ibmi_batch.specs.Words.{are_serial_words}
 
 -- ---- a store that was not opened
@@ -96,6 +101,8 @@ module _ {S C : Type 0} (tells : Type 0) (disk : S → Disk) (gives : C → ℕ 
     timestamps = has.given;
     moments = led.moments;
     acknowledged = led.now;
+    answered = led.answered;
+    roots = led.roots;
     ran = subst (λ (scripts : Scripts). HasRun status scripts made session-outcome writing) has.scripts
         (subst (λ (calls : List Call). HasRun status later.scripts calls session-outcome writing) all ran);
   }
@@ -116,47 +123,64 @@ module _ {S : Type 0} (tells : Type 0) (disk : S → Disk) (old : Disk) (library
   }
 
   module _ (begun-library : LibraryOver S) (scripts : Scripts) (begins : BeginsJobs library begun-library scripts.names) (last : Disk) where
-    pub over-run : (status : Status) (words : List (List ℕ)) (given : List Call → Type 0) (writing : Writing)
-        → SessionRan tells (disk begun-library.store) last status words scripts (begun library.state scripts.names) given writing
-        → RunOver status words scripts given writing (record { tells = tells; old = old; new = last })
-    over-run status words given writing ran = record {
-      before = opened.before;
-      start = library.state;
-      starts = opened.from;
-      calls = ran.calls;
-      outcome = ran.outcome;
-      run = record { legal = ran.legal; asked = ran.asked; order = ran.order };
-      timestamps = ran.timestamps;
-      kept = record {
+    -- each front of its calls can be opened again, from a start which is sound and which its journal leaves
+    module _ (askable : IsTrue (list_all is_askable_script scripts.scripts)) (law : FrontsCanBeOpened) (sound : IsSound (begun library.state scripts.names))
+        (replayed : IsReplayed (begun library.state scripts.names)) where
+      kept-run : (status : Status) (words : List (List ℕ)) (given : List Call → Type 0) (writing : Writing)
+          → (ran : SessionRan tells (disk library.store) last status words scripts (begun library.state scripts.names) given writing)
+          → IsKeptRun (record { tells = tells; old = old; new = last }) opened.before scripts.sources (begun library.state scripts.names) ran.calls ran.outcome
+      kept-run status words given writing ran = record {
         moments = λ told.
-            leaves_then old (disk library.store) last (MayRun old opened.before scripts.sources (begun library.state scripts.names) ran.calls ran.outcome)
-            (leaves_less old (disk library.store) (MayRestart descriptions old restart_job 0 opened.before)
-            (MayRun old opened.before scripts.sources (begun library.state scripts.names) ran.calls ran.outcome)
-            (opened.restart told opened.before (opened.from.spelled told)) (λ areas may. inl may))
-            (leaves_less (disk library.store) last (IsFront scripts.sources (begun library.state scripts.names) ran.calls [] ran.outcome)
-            (MayRun old opened.before scripts.sources (begun library.state scripts.names) ran.calls ran.outcome)
-            (subst (λ (store : S). Leaves (disk store) last (IsFront scripts.sources (begun library.state scripts.names) ran.calls [] ran.outcome)) begins.store (ran.moments told))
-            (λ areas front. inr front));
-        acknowledged = ran.acknowledged;
-      };
-      ran = ran.ran;
-    }
+            run-moments law scripts.sources (begun library.state scripts.names) sound replayed (disk library.store) last library.state.entries (opened.durable told) ran.roots tells old
+            opened.before (restarted told) ran.calls ran.outcome unsaved ran.legal (ran.moments told);
+        acknowledged = λ told.
+            run-acknowledged law scripts.sources (begun library.state scripts.names) sound replayed (disk library.store) last library.state.entries (opened.durable told) ran.roots tells old
+            opened.before (restarted told) ran.calls ran.outcome unsaved ran.legal (ran.acknowledged told);
+        answered = λ told number few.
+            run-answered law scripts.sources (begun library.state scripts.names) sound replayed (disk library.store) last library.state.entries (opened.durable told) ran.roots tells old
+            opened.before (restarted told) ran.calls ran.outcome unsaved ran.legal number (ran.answered told number few);
+      }
+        where
+          restarted : tells → Leaves old (disk library.store) (MayRestart descriptions old restart_job 0 opened.before)
+          restarted told = opened.restart told opened.before (opened.from.spelled told)
+
+          unsaved : AsksNoCheckpoint ran.calls
+          unsaved = no-checkpoint scripts askable ran.calls ran.asked
+
+      pub over-run : (status : Status) (words : List (List ℕ)) (given : List Call → Type 0) (writing : Writing)
+          → SessionRan tells (disk begun-library.store) last status words scripts (begun library.state scripts.names) given writing
+          → RunOver status words scripts given writing (record { tells = tells; old = old; new = last })
+      over-run status words given writing says =
+          let ran : SessionRan tells (disk library.store) last status words scripts (begun library.state scripts.names) given writing =
+          subst (λ (store : S). SessionRan tells (disk store) last status words scripts (begun library.state scripts.names) given writing) begins.store says in
+          record {
+            before = opened.before;
+            start = library.state;
+            starts = opened.from;
+            calls = ran.calls;
+            outcome = ran.outcome;
+            run = record { legal = ran.legal; asked = ran.asked; order = ran.order };
+            timestamps = ran.timestamps;
+            kept = kept-run status words given writing ran;
+            ran = ran.ran;
+          }
 
     pub rose-run : Rose (disk begun-library.store).faults last.faults → Rose old.faults last.faults
     rose-run rose = let same = ap (λ (store : S). (disk store).faults) begins.store in let upto = opened.faults in omega (arith, rose, same, upto)
 
     -- a session over it, which began with these jobs, has run
     pub runs-over : {C : Type 0} (gives : C → ℕ → C → Type 0) (session : SessionOver S C) (clock later : C) (status : Status) (words : List (List ℕ)) (writing : Writing)
+        → IsTrue (list_all is_askable_script scripts.scripts) → FrontsCanBeOpened → IsSound (begun library.state scripts.names) → IsReplayed (begun library.state scripts.names)
         → session.library ≡ begun-library → session.scripts ≡ scripts → session.clock ≡ clock
         → ((from : State) → StandsForced tells disk session.library from
         → SessionRan tells (disk session.library.store) last status words session.scripts from (AreGiven gives session.clock later) writing)
         → (status ≡ StoreFault → session.library.failed ≡ false → Rose (disk session.library.store).faults last.faults)
         → RunsJobs status words scripts (AreGiven gives clock later) writing (record { tells = tells; old = old; new = last })
-    runs-over {C = C} gives session clock later status words writing over says at ran cause =
+    runs-over {C = C} gives session clock later status words writing askable law sound replayed over says at ran cause =
         let forced = StandsForced-begun tells disk library begun-library scripts.names library.state opened-forced begins in
         let done = ran (begun library.state scripts.names) (subst (λ (it : LibraryOver S). StandsForced tells disk it (begun library.state scripts.names)) (sym over) forced) in
         inl (
-          over-run status words (AreGiven gives clock later) writing
+          over-run askable law sound replayed status words (AreGiven gives clock later) writing
               (subst (λ (it : LibraryOver S). SessionRan tells (disk it.store) last status words scripts (begun library.state scripts.names) (AreGiven gives clock later) writing) over
               (subst (λ (it : Scripts). SessionRan tells (disk session.library.store) last status words it (begun library.state scripts.names) (AreGiven gives clock later) writing) says
               (subst (λ (it : C). SessionRan tells (disk session.library.store) last status words session.scripts (begun library.state scripts.names) (AreGiven gives it later) writing) at done))),

@@ -23,7 +23,6 @@ AreWithin bytes sources = AllByRecursion (λ source. length source.text ≤ leng
 pub runnable : (bytes : List ℕ) (scripts : Scripts) → length bytes ≤ MOST_INPUT → scripts ≡ input_of (lines_of bytes) → AreReady scripts → NamesJobs (length scripts.scripts) scripts.schedule
     → AreWithin bytes (input_of (lines_of bytes)).sources → AreRunnable scripts
 runnable bytes scripts within says ready scheduled short = record {
-  answered = ready.answered;
   short = within-short (length bytes + 1) (omega (arith, within)) scripts.sources (subst (λ (read : Scripts). AreWithin bytes read.sources) (sym says) short);
   askable = ready.askable;
   named = ready.as_many;

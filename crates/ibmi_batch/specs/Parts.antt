@@ -4,11 +4,11 @@ use Rattle.std.specs.List.{list_all}
 use Rattle.store_model.specs.Disk.{Areas, Disk, Leaves, May}
 use Rattle.text_lines.specs.Lines.{lines_of}
 use Rattle.entry_codec.specs.declared.entries.Entry.{Entry}
-use Rattle.answered_sources.specs.Answered.{AreAnswered}
+use Rattle.receiver_chain.specs.Others.{LeavesRoots}
 use Rattle.deposited_entries.specs.Deposits.{AreShort}
 use Rattle.library_steps.specs.State.{State}
 use Rattle.library_steps.specs.History.{Outcome, Standing, Runs}
-use Rattle.library_core.specs.Fronts.{IsFront}
+use Rattle.journal_fronts.specs.Fronts.{IsAnswered, IsFront}
 use Rattle.library_model.specs.declared.calls.Call.{Call}
 use Rattle.library_model.specs.declared.limits.TheConstants.{MOST_JOBS}
 use Rattle.input_scripts.specs.declared.Scripts.{Scripts}
@@ -29,7 +29,6 @@ use Rattle.ibmi_batch.specs.Words.{are_serial_words}
 
 -- scripts that a session may begin
 pub record AreRunnable (scripts : Scripts) : Type 0 where
-  pub answered : AreAnswered scripts.sources
   pub short : AreShort scripts.sources
   pub askable : IsTrue (list_all is_askable_script scripts.scripts)
   pub named : length scripts.names ≡ length scripts.scripts
@@ -129,4 +128,6 @@ pub record SessionRan (tells : Type 0) (first last : Disk) (status : Status) (wo
   pub timestamps : given calls
   pub moments : tells → Leaves first last (IsFront scripts.sources from calls [] outcome)
   pub acknowledged : tells → (areas : Areas) → May last areas → IsFront scripts.sources from calls calls outcome areas
+  pub answered : tells → (number : ℕ) → number ≤ length calls → IsAnswered scripts.sources from calls outcome first last number
+  pub roots : LeavesRoots first last
   pub ran : HasRun status scripts calls outcome writing

@@ -8,7 +8,7 @@ ghost use Rattle.job_runner.specs.Moments.{StandsForced};
 ghost use Rattle.job_runner.specs.Session.{HasMade};
 ghost use Rattle.job_runner.specs.Turns.{AreInTurn};
 ghost use Rattle.library_model.specs.declared.calls.Call.{Call};
-ghost use Rattle.library_core.specs.Stands.{IsAt};
+ghost use Rattle.kept_library.specs.Stands.{IsAt};
 ghost use Rattle.library_steps.specs.State.{State};
 ghost use Rattle.library_steps.specs.History.{Outcome};
 ghost use Rattle.listing.specs.HistoryListing.{listing};
@@ -20,12 +20,15 @@ ghost use Rattle.ibmi_batch.specs.Words.{are_serial_words};
 use crate::opening::status_of;
 use crate::status::Status;
 use crate::words::are_serial_words;
+use front_laws::fronts_can_be_opened;
 use input_scripts::{JobNumbers, Schedule, Scripts};
 use job_runner::{Ran, Session};
 use library_model::calls::Call;
 use library_model::requests::{EndReason, Request};
 use listing::history_listing::listing;
 use opened_library::open_library;
+use replayed_restarts::restarted_libraries_are_replayed;
+use run_laws::jobs_begin_in_a_sound_library;
 use std::alloc::{AllocError, Global};
 use store_model::{Clock, Sink, Store, write_all};
 
@@ -49,10 +52,14 @@ pub(crate) fn run_scripts<S: Store, O: Sink, C: Clock>(
     requires runnable { AreRunnable scripts }
     ensures { RunsJobs result.0 (map string_bytes words.now) scripts (AreGiven C.gives clock result.2) (record { tells = O.tells; old = O.taken out.old; new = O.taken out.new; rose = Rose (O.faults out.old) (O.faults out.new) }) (record { tells = S.tells; old = S.disk store; new = S.disk result.1 }) }
 {
+    // Whatever a stop leaves of the calls can be opened again.
+    jobs_begin_in_a_sound_library();
+    restarted_libraries_are_replayed();
+    fronts_can_be_opened();
     match open_library(alloc, store) {
         Err((fault, store)) => (status_of(fault), store, clock),
         Ok(library) => match Session::new(alloc, library, clock, scripts) {
-            Err((library, clock)) => (Status::NoMemory, library.into_store(), clock),
+            Err((store, clock)) => (Status::NoMemory, store, clock),
             Ok(session) => run_session(alloc, words, session, out),
         },
     }

@@ -7,7 +7,7 @@ ghost use Rattle.ibmi_batch.specs.Parts.{Displays, Shows};
 use crate::opening::status_of;
 use crate::status::Status;
 use display::library_text::display;
-use library_core::library::Library;
+use kept_library::KeptLibrary;
 use library_parts::Contents;
 use opened_library::open_library;
 use std::alloc::{AllocError, Global};
@@ -27,7 +27,7 @@ pub(crate) fn show_library<S: Store, O: Sink>(alloc: Global, store: S, out: &mut
 }
 
 /// Writes what a library has.
-fn write_display<S: Store, O: Sink>(alloc: Global, library: &Library<S>, out: &mut O) -> Status
+fn write_display<S: Store, O: Sink>(alloc: Global, library: &KeptLibrary<S>, out: &mut O) -> Status
     ensures { Displays result library.now.state (record { tells = O.tells; old = O.taken out.old; new = O.taken out.new; rose = Rose (O.faults out.old) (O.faults out.new) }) }
 {
     let text = match display_of(alloc, library.contents()) {

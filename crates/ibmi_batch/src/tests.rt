@@ -346,7 +346,7 @@ const LINES: [&str; 9] = [
 ];
 
 /// A line of the first input, what stands there in its place, and the line at fault.
-const FAULTS: [(usize, &str, u32); 29] = [
+const FAULTS: [(usize, &str, u32); 28] = [
     (1, "", 1),
     (1, "//DDS", 1),
     (1, "//DDSCUST", 1),
@@ -358,11 +358,6 @@ const FAULTS: [(usize, &str, u32); 29] = [
     (1, "//DDS CUST\r", 1),
     (1, "//END", 2),
     (1, "//JOB J1", 2),
-    (
-        2,
-        "     A          R CUSTV                     JFILE(A B)",
-        1,
-    ),
     (4, "//JOB", 4),
     (4, "//JOB J1 J2", 4),
     (5, "CRTPF FILE(CUST)", 5),

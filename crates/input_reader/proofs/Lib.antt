@@ -1,4 +1,3 @@
-mod AnsweredLemmas
 mod InputLemmas
 mod JobLemmas
 mod LeastLemmas

@@ -13,7 +13,6 @@ use Rattle.input_cards.specs.declared.cards.Turns.TheVariants.{Jobs as JobNames,
 use Rattle.input_cards.specs.Sections.{Part, parts_of}
 use Rattle.input_cards.specs.CardFaults.{source_name, job_name, turns_in, names_of, card_faults}
 use Rattle.job_statements.specs.Reading.{job_faults, job_script}
-use Rattle.input_reader.specs.Unanswered.{unanswered_sources}
 
 -- ---- the lines at fault
 
@@ -25,9 +24,9 @@ faults_in part (Some name) = job_faults (part.line + 1) part.lines
 abbrev pub job_faults_in : List Part → List ℕ
 job_faults_in parts = flat_map (λ part. faults_in part (job_name part.card)) parts
 
--- those of the cards, those of each job's statements, and the cards of sources that can't be made a file yet
+-- those of the cards and those of each job's statements
 abbrev pub faults_of : List (List ℕ) → List ℕ
-faults_of lines = card_faults lines ++ job_faults_in (parts_of lines) ++ unanswered_sources (parts_of lines)
+faults_of lines = card_faults lines ++ job_faults_in (parts_of lines)
 
 -- ---- what the input says
 

@@ -13,7 +13,6 @@ ghost use Rattle.input_reader.specs.declared.input.InputError.TheVariants.{NoMem
 use crate::jobs::read_jobs;
 use crate::schedules::schedule;
 use crate::sources::sources;
-use crate::unanswered::unanswered_source;
 use input_cards::faults::{card_fault, job_names, lesser};
 use input_cards::limits::MOST_INPUT;
 use input_cards::section::Section;
@@ -52,8 +51,7 @@ pub fn read_input(alloc: Global, bytes: &[u8]) -> Result<Scripts, InputError>
     let sections = sections.as_slice();
     let cards = card_fault(alloc, bytes, sections)?;
     let jobs = read_jobs(alloc, bytes, sections)?;
-    let unanswered = unanswered_source(alloc, bytes, sections)?;
-    match lesser(lesser(cards, jobs.fault), unanswered) {
+    match lesser(cards, jobs.fault) {
         Some(line) => Err(InputError::Script { line }),
         None => Ok(scripts_by(alloc, bytes, sections, jobs.scripts)?),
     }

@@ -6,4 +6,3 @@ mod jobs;
 pub mod laws;
 mod schedules;
 mod sources;
-mod unanswered;

@@ -30,7 +30,7 @@ pub(crate) fn sources(
 }
 
 /// The text with a line feed after its last line too.
-pub(crate) fn whole_lines(alloc: Global, text: &[u8]) -> Result<SourceText, AllocError>
+fn whole_lines(alloc: Global, text: &[u8]) -> Result<SourceText, AllocError>
     ensures { IfOk result (λ lines. lines ≡ text_of_lines (lines_of text.now)) }
 {
     let mut lines = SourceText::new(alloc);

@@ -1,13 +1,18 @@
 -- What calls more make of a history: of a job's own calls, of what was asked, and of where the calls lead.
 use Rattle.std.proofs.Common.{◌≡◌, ◌≢◌, ℕ, ◌-◌, ◌<◌, ◌≤◌, Bool, true, not, ◌&&◌, IsTrue, get_or, unwrap_or, Result, Ok, Err, IfOk, Option, Some, List, [], ◌∷◌, ◌++◌, length, map, slice_get, zero, suc, refl, sym, ◌∙◌, ap, arith, rules, append_assoc, append-nil}
 use Rattle.std.proofs.lemmas.Option.{slice_get-get_or}
-use Rattle.std.specs.List.{list_all}
+use Rattle.std.specs.List.{AllByRecursion, list_all}
 use Rattle.std.proofs.lemmas.Grind.{common_steps}
 use Rattle.std.proofs.lemmas.Bool.Decides.{nat_tests}
 use Rattle.library_model.specs.declared.calls.Call.{Call}
+use Rattle.library_model.specs.declared.requests.Request.{Request}
 use Rattle.library_model.specs.Ending.{is_end_job}
+use Rattle.built_requests.specs.Built.{is_built}
+use Rattle.input_scripts.specs.Askable.{is_askable_script}
+use Rattle.input_scripts.proofs.AskLemmas.{asks-built}
+use Rattle.job_history.specs.Counting.{is_full}
 use Rattle.job_language.specs.declared.statements.Script.{Script}
-use Rattle.job_runner.specs.Ended.{calls_of, ends_once}
+use Rattle.job_runner.specs.Ended.{calls_of, ends_once, replies_of}
 use Rattle.job_runner.specs.Asked.{AreAsked, script_of, no_script}
 
 pub calls_of-append_same : (job : ℕ) (calls : List Call) (call : Call) → call.job ≡ job → calls_of job (calls ++ call ∷ []) ≡ calls_of job calls ++ call ∷ []
@@ -60,6 +65,15 @@ list_all-script_of p scripts job none all = at_place p scripts (job - 1) none al
     at_place p [] place none all = rw none (search rules)
     at_place p (script ∷ scripts) zero none all = grind (arith, all)
     at_place p (script ∷ scripts) (suc place) none all = at_place p scripts place none (grind (arith, all))
+
+-- what holds of each request that the library answers holds of the calls that such scripts ask
+pub AreAsked-built : (P : Request → Type 0) → ((request : Request) → is_built request ≡ true → P request) → (scripts : List Script) → IsTrue (list_all is_askable_script scripts)
+    → (before calls : List Call) → AreAsked scripts before calls → AllByRecursion (λ (call : Call). P call.request) calls
+AreAsked-built P holds scripts askable before [] asked = tt
+AreAsked-built P holds scripts askable before (call ∷ calls) asked =
+    let script : IsTrue (is_askable_script (script_of scripts call.job)) = list_all-script_of is_askable_script scripts call.job refl askable in
+    let built = asks-built (script_of scripts call.job) script (replies_of call.job before) (is_full before) in
+    (holds call.request (ap is_built asked.0 ∙ built), AreAsked-built P holds scripts askable (before ++ call ∷ []) calls asked.1)
 
 -- what follows from a success, where it succeeds
 pub ok-map : {A E : Type 0} {P Q : A → Type 0} (r : Result A E) → ((x : A) → P x → Q x) → IfOk r P → IfOk r Q

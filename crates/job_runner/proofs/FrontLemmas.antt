@@ -1,6 +1,7 @@
 -- Where the journal of calls ends: whole calls of the first calls are whole calls of all, and what was acknowledged of the first and of the others was of all.
-use Rattle.std.proofs.Common.{◌≡◌, ◌⊎◌, inl, inr, ℕ, zero, suc, ◌+◌, ◌≤◌, List, [], ◌∷◌, ◌++◌, length, take, slice_get, refl, sym, ◌∙◌, ap, subst, arith, length-append}
-use Rattle.std.proofs.lemmas.List.{take-append-le, take_all}
+use Rattle.std.proofs.Common.{◌≡◌, ◌⊎◌, inl, inr, ℕ, zero, suc, ◌+◌, ◌≤◌, Option, List, [], ◌∷◌, ◌++◌, length, take, drop, slice_get, refl, sym, ◌∙◌, ap, subst, arith}
+use Rattle.std.proofs.Common.{append_assoc, append-nil, length-append}
+use Rattle.std.proofs.lemmas.List.{take-append-drop, take-append-le, take_all}
 use Rattle.std.proofs.Math.Seq.{take-append-add}
 use Rattle.store_model.specs.Disk.{Areas}
 use Rattle.entry_codec.specs.declared.entries.Entry.{Entry}
@@ -10,7 +11,7 @@ use Rattle.library_model.specs.declared.calls.Call.{Call}
 use Rattle.library_model.specs.declared.sources.NamedSource.{NamedSource}
 use Rattle.library_steps.specs.State.{State}
 use Rattle.library_steps.specs.History.{Outcome, Standing, Runs}
-use Rattle.library_core.specs.Fronts.{entries_at, entries_behind, IsAcknowledged, Switches, IsWhole, HasAcknowledged}
+use Rattle.journal_fronts.specs.Fronts.{entries_at, entries_behind, IsAcknowledged, Switches, IsWhole, HasAcknowledged}
 use Rattle.job_runner.specs.Moments.{EndsWhole, IsLeft}
 use Rattle.run_laws.proofs.OutcomeLemmas.{Runs-append, Runs-one, Runs-split_at}
 
@@ -33,11 +34,12 @@ none-there : {X : Type 0} (before : List X) (x : X) (later : List X) → [] ≡ 
 none-there [] x later is = absurd cc
 none-there (b ∷ before) x later is = absurd cc
 
-switches-more : (made more : List Call) (n : ℕ) → Switches (slice_get made n) → Switches (slice_get (made ++ more) n)
-switches-more [] more zero is = absurd is
-switches-more [] more (suc n) is = absurd is
-switches-more (call ∷ made) more zero is = is
-switches-more (call ∷ made) more (suc n) is = switches-more made more n is
+switches-more : (made more : List Call) (n : ℕ) (at : Outcome) (sources : List NamedSource) (count : ℕ) → Switches (slice_get made n) at sources count
+    → Switches (slice_get (made ++ more) n) at sources count
+switches-more [] more zero at sources count is = absurd is
+switches-more [] more (suc n) at sources count is = absurd is
+switches-more (call ∷ made) more zero at sources count is = is
+switches-more (call ∷ made) more (suc n) at sources count is = switches-more made more n at sources count is
 
 slice_get-behind : (made more : List Call) (n : ℕ) → slice_get (made ++ more) (length made + n) ≡ slice_get more n
 slice_get-behind [] more n = let same : 0 + n ≡ n = omega arith in ap (slice_get more) same
@@ -55,6 +57,14 @@ pub acknowledged-least : (sources : List NamedSource) (start : State) (calls : L
 acknowledged-least sources start calls few many less has = λ before call later s is runs acknowledged.
     let there = has before call later s is runs acknowledged in
     omega (arith, there, less)
+
+-- that of calls was that of the first of them
+pub acknowledged-front : (sources : List NamedSource) (start : State) (calls : List Call) (number count : ℕ) → HasAcknowledged sources start calls count
+    → HasAcknowledged sources start (take number calls) count
+acknowledged-front sources start calls number count has = λ before call later s is runs acknowledged.
+    let whole : calls ≡ before ++ call ∷ (later ++ drop number calls) =
+    sym (take-append-drop number calls) ∙ ap (λ (cs : List Call). cs ++ drop number calls) is ∙ append_assoc before (call ∷ later) (drop number calls) in
+    has before call (later ++ drop number calls) s whole runs acknowledged
 
 -- that one call was acknowledged
 pub acknowledged-call : (sources : List NamedSource) (start : State) (call : Call) (count : ℕ) → (IsAcknowledged sources start call → length (entries_behind sources start call) ≤ count)
@@ -112,7 +122,7 @@ whole-more sources start made more count whole = record {
   runs = subst (λ (cs : List Call). Runs sources (Standing start) cs whole.outcome) (sym (take-append-le whole.made made more whole.few)) whole.runs;
   count_is = elim whole.count_is [
     | inl is ↦ inl is
-    | inr one ↦ inr (one.0, switches-more made more whole.made one.1)
+    | inr one ↦ inr (one.0, switches-more made more whole.made whole.outcome sources count one.1)
   ];
 }
 
@@ -127,7 +137,7 @@ whole-behind sources start mid made more count led whole = record {
       (Runs-append sources (Standing start) (Standing mid) whole.outcome made (take whole.made more) led whole.runs);
   count_is = elim whole.count_is [
     | inl is ↦ inl is
-    | inr one ↦ inr (one.0, subst Switches (sym (slice_get-behind made more whole.made)) one.1)
+    | inr one ↦ inr (one.0, subst (λ (o : Option Call). Switches o whole.outcome sources count) (sym (slice_get-behind made more whole.made)) one.1)
   ];
 }
 
@@ -154,20 +164,13 @@ module _ (sources : List NamedSource) (start mid : State) (made more : List Call
   ]
   ends-which count (inr whole) = inr (whole-behind sources start mid made more count led whole)
 
-  -- behind the calls that came first, of which nothing is asked
-  pub ends-behind : (count : ℕ) → EndsWhole sources mid between more [] count → EndsWhole sources start forced (made ++ more) [] count
-  ends-behind count ends = record {
+  -- with what was acknowledged of the first calls, and of these
+  pub ends-joined : (acknowledged : List Call) (count : ℕ) → EndsWhole sources mid between more acknowledged count
+      → EndsWhole sources start forced (made ++ more) (made ++ acknowledged) count
+  ends-joined acknowledged count ends = record {
     which = ends-which count ends.which;
     least = omega (arith, front.least, ends.least);
-    has = acknowledged-none sources start count;
-  }
-
-  -- with what was acknowledged of all
-  pub ends-both : (count : ℕ) → EndsWhole sources mid between more more count → EndsWhole sources start forced (made ++ more) (made ++ more) count
-  ends-both count ends = record {
-    which = ends-which count ends.which;
-    least = omega (arith, front.least, ends.least);
-    has = acknowledged-append sources start mid made more count led (acknowledged-least sources start made between count ends.least front.has) ends.has;
+    has = acknowledged-append sources start mid made acknowledged count led (acknowledged-least sources start made between count ends.least front.has) ends.has;
   }
 
 -- ---- what a stop has left
@@ -184,20 +187,37 @@ left-more sources start mid book made more acknowledged outcome areas behind gro
       (sym (ap (λ (es : List Entry). take left.count es) grows ∙ take-append-le left.count mid.entries behind left.most)) left.spells;
 }
 
+-- less is asked of it
+pub left-less : (sources : List NamedSource) (start : State) (book : BookState) (calls acknowledged fewer : List Call) (outcome : Outcome) (areas : Areas)
+    → ((count : ℕ) → HasAcknowledged sources start acknowledged count → HasAcknowledged sources start fewer count)
+    → IsLeft sources start book calls acknowledged outcome areas → IsLeft sources start book calls fewer outcome areas
+left-less sources start book calls acknowledged fewer outcome areas less left = record {
+  count = left.count;
+  ends = record { which = left.ends.which; least = left.ends.least; has = less left.count left.ends.has };
+  most = left.most;
+  spells = left.spells;
+}
+
+-- calls, and then others: what was acknowledged of the first, and of these
 module _ (sources : List NamedSource) (start mid : State) (made more : List Call) (led : Runs sources (Standing start) made (Standing mid)) (before between : BookState)
     (front : EndsWhole sources start before.forced made made between.forced) (receiver : between.chain.first ≡ before.chain.first) (outcome : Outcome) (areas : Areas) where
-  pub left-behind : IsLeft sources mid between more [] outcome areas → IsLeft sources start before (made ++ more) [] outcome areas
-  left-behind left = record {
+  pub left-joined : (acknowledged : List Call) → IsLeft sources mid between more acknowledged outcome areas
+      → IsLeft sources start before (made ++ more) (made ++ acknowledged) outcome areas
+  left-joined acknowledged left = record {
     count = left.count;
-    ends = ends-behind sources start mid made more led before.forced between.forced front left.count left.ends;
+    ends = ends-joined sources start mid made more led before.forced between.forced front acknowledged left.count left.ends;
     most = left.most;
     spells = subst (λ (n : ℕ). SpellEntries n (take left.count (entries_at outcome)) areas) receiver left.spells;
   }
 
-  pub left-both : IsLeft sources mid between more more outcome areas → IsLeft sources start before (made ++ more) (made ++ more) outcome areas
-  left-both left = record {
-    count = left.count;
-    ends = ends-both sources start mid made more led before.forced between.forced front left.count left.ends;
-    most = left.most;
-    spells = subst (λ (n : ℕ). SpellEntries n (take left.count (entries_at outcome)) areas) receiver left.spells;
-  }
+  -- of these nothing is asked, and of the first some
+  pub left-front : (number : ℕ) → IsLeft sources mid between more [] outcome areas → IsLeft sources start before (made ++ more) (take number made) outcome areas
+  left-front number left =
+      left-less sources start before (made ++ more) (made ++ []) (take number made) outcome areas
+      (λ count has. acknowledged-front sources start made number count (subst (λ (cs : List Call). HasAcknowledged sources start cs count) (append-nil made) has))
+      (left-joined [] left)
+
+  -- of all nothing is asked
+  pub left-behind : IsLeft sources mid between more [] outcome areas → IsLeft sources start before (made ++ more) [] outcome areas
+  left-behind left =
+      left-less sources start before (made ++ more) (made ++ []) [] outcome areas (λ count has. acknowledged-none sources start count) (left-joined [] left)

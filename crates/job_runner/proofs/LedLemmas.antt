@@ -4,6 +4,8 @@ use Rattle.std.proofs.Common.{append_assoc, append-nil, length-append}
 use Rattle.store_model.specs.Disk.{Areas, Disk, May, Later, Leaves}
 use Rattle.store_model.proofs.Runs.{leaves_less, leaves_now, leaves_then}
 use Rattle.entry_codec.specs.declared.entries.Entry.{Entry}
+use Rattle.receiver_chain.specs.Others.{LeavesRoots}
+use Rattle.receiver_chain.proofs.Others.{roots_here, roots_then}
 use Rattle.journal_book.specs.Kept.{IsForcedOrFrom, SpellEntries}
 use Rattle.library_model.specs.declared.calls.Call.{Call}
 use Rattle.library_model.specs.declared.replies.Reply.{Reply}
@@ -14,11 +16,12 @@ use Rattle.library_steps.specs.State.{State, memory_of, job_at}
 use Rattle.library_steps.specs.Step.{step}
 use Rattle.library_steps.specs.History.{is_running, Outcome, Standing, Failed, Comes, Runs}
 use Rattle.deposited_entries.specs.Deposits.{switches}
-use Rattle.library_core.specs.Parts.{LibraryOver}
-use Rattle.library_core.specs.Stands.{Stands, IsAt, Goes, whole_from}
-use Rattle.library_core.specs.Fronts.{entries_at, entries_behind, IsAcknowledged, IsWhole, HasAcknowledged}
-use Rattle.job_runner.specs.Moments.{EndsWhole, IsLeft, LeavesForced, Leads}
-use Rattle.job_runner.proofs.FrontLemmas.{acknowledged-none, acknowledged-call, whole-none, whole-all, ends-both, left-more, left-behind, left-both}
+use Rattle.kept_library.specs.Parts.{LibraryOver}
+use Rattle.kept_library.specs.Stands.{Stands, IsAt, Goes, whole_from}
+use Rattle.journal_fronts.specs.Fronts.{entries_at, entries_behind, HasSwitched, IsAcknowledged, IsWhole, HasAcknowledged}
+use Rattle.job_runner.specs.Moments.{EndsWhole, IsLeft, IsAnsweredBy, LeavesForced, Leads}
+use Rattle.job_runner.proofs.AnsweredLemmas.{answered-none, answered-one, answered-append}
+use Rattle.job_runner.proofs.FrontLemmas.{acknowledged-none, acknowledged-call, whole-none, whole-all, ends-joined, left-more, left-behind, left-joined}
 use Rattle.run_laws.proofs.AnsweredLemmas.{answered, is_unanswered, never-unanswered}
 use Rattle.run_laws.proofs.GrownLemmas.{switch-two}
 use Rattle.run_laws.proofs.OutcomeLemmas.{Runs-append}
@@ -53,6 +56,10 @@ none-led tells disk sources first alive = record {
     images = λ areas may. none-left disk sources first [] forced (acknowledged-none sources first.state first.book.forced) areas may;
   };
   now = λ told forced areas may. none-left disk sources first [] forced (acknowledged-none sources first.state first.book.forced) areas may;
+  answered = λ told forced.
+      answered-none sources first.state first.book (disk first.store)
+      (none-left disk sources first [] forced (acknowledged-none sources first.state first.book.forced));
+  roots = roots_here (disk first.store);
 }
 
 pub Leads-none : {S : Type 0} (tells : Type 0) (disk : S → Disk) (sources : List NamedSource) (first : LibraryOver S) (start : State) → Stands first start
@@ -84,6 +91,19 @@ module _ {S : Type 0} (tells : Type 0) (disk : S → Disk) (sources : List Named
         left-more sources start between first.book made more [] on.outcome areas on.grows.0 on.grows.1
         (subst (λ (o : Outcome). IsLeft sources start first.book made [] o areas) is left)
 
+    answered-first : tells → LeavesForced disk first → (number : ℕ) → number ≤ length made
+        → IsAnsweredBy sources start first.book made (Standing between) (disk first.store) (disk mid.store) number
+    answered-first told forced number few =
+        subst (λ (o : Outcome). IsAnsweredBy sources start first.book made o (disk first.store) (disk mid.store) number) is (led.answered told forced number few)
+
+    answered-all : tells → LeavesForced disk first → (number : ℕ) → number ≤ length (made ++ more)
+        → IsAnsweredBy sources start first.book (made ++ more) on.outcome (disk first.store) (disk later.store) number
+    answered-all told forced =
+        answered-append sources start between first.book mid.book made more runs-between (led.grows.0, grown-between) front-between led.receiver on.outcome on.grows
+        (disk first.store) (disk mid.store) (disk later.store)
+        (subst (λ (o : Outcome). Leaves (disk first.store) (disk mid.store) (IsLeft sources start first.book made [] o)) is (led.moments told forced))
+        (on.moments told (still-forced told forced)) (answered-first told forced) (on.answered told (still-forced told forced))
+
     Leads-on : Leads tells disk sources first later start (made ++ more)
     Leads-on = record {
       outcome = on.outcome;
@@ -91,7 +111,7 @@ module _ {S : Type 0} (tells : Type 0) (disk : S → Disk) (sources : List Named
       at = on.at;
       grows = (led.grows.0 ++ on.grows.0, on.grows.1 ∙ ap (λ (es : List Entry). es ++ on.grows.0) grown-between ∙ append_assoc start.entries led.grows.0 on.grows.0);
       receiver = on.receiver ∙ led.receiver;
-      forced = λ alive. ends-both sources start between made more runs-between first.book.forced mid.book.forced front-between later.book.forced (on.forced alive);
+      forced = λ alive. ends-joined sources start between made more runs-between first.book.forced mid.book.forced front-between more later.book.forced (on.forced alive);
       left = λ told forced alive. on.left told (still-forced told forced) alive;
       moments = λ told forced.
           leaves_then (disk first.store) (disk mid.store) (disk later.store) (IsLeft sources start first.book (made ++ more) [] on.outcome)
@@ -101,8 +121,10 @@ module _ {S : Type 0} (tells : Type 0) (disk : S → Disk) (sources : List Named
           (IsLeft sources start first.book (made ++ more) [] on.outcome) (on.moments told (still-forced told forced))
           (λ areas left. left-behind sources start between made more runs-between first.book mid.book front-between led.receiver on.outcome areas left));
       now = λ told forced areas may.
-          left-both sources start between made more runs-between first.book mid.book front-between led.receiver on.outcome areas
+          left-joined sources start between made more runs-between first.book mid.book front-between led.receiver on.outcome areas more
           (on.now told (still-forced told forced) areas may);
+      answered = answered-all;
+      roots = roots_then (disk first.store) (disk mid.store) (disk later.store) led.roots on.roots;
     }
 
   -- a library that has failed is not called
@@ -137,6 +159,7 @@ pub record HasCalled {S : Type 0} (tells : Type 0) (disk : S → Disk) (sources 
   pub all : later.failed ≡ false → later.book.forced + later.book.waiting ≡ length later.state.entries
   pub receiver : later.book.chain.first ≡ first.book.chain.first
   pub grows : (more : List Entry) × (entries_behind sources first.state call ≡ first.state.entries ++ more)
+  pub roots : LeavesRoots (disk first.store) (disk later.store)
 
 switches-is : (request : Request) → switches request ≡ true → request ≡ ChangeJournal
 switches-is ChangeJournal is = refl
@@ -176,6 +199,9 @@ module _ {S : Type 0} (tells : Type 0) (disk : S → Disk) (sources : List Named
     whole-within : (count : ℕ) → whole_from call.request s.entries behind ≤ count → count ≤ length behind → IsWhole sources s (call ∷ []) count
     whole-within count from most = by (switches call.request) refl
       where
+        switched : switches call.request ≡ true → HasSwitched sources s call count
+        switched switching = record { switching = switching; next = runs.1; comes = runs.2; few = subst (λ (es : List Entry). count ≤ length es) (sym is ∙ ap entries_at runs.3) most }
+
         by : (b : Bool) → switches call.request ≡ b → IsWhole sources s (call ∷ []) count
         by false other =
             let least : length behind ≤ count = subst (λ (b : Bool). (if b then length s.entries else length behind) ≤ count) other from in
@@ -187,7 +213,7 @@ module _ {S : Type 0} (tells : Type 0) (disk : S → Disk) (sources : List Named
             subst (λ (r : Request). length (step sources s call.job call.timestamp r).0.entries ≤ length s.entries + 2) (sym request) (switch-two sources s call.job call.timestamp) in
             three (length s.entries) count least (omega (arith, most, few))
             (λ none. subst (IsWhole sources s (call ∷ [])) (sym none) (whole-none sources s (call ∷ [])))
-            (λ one. record { made = 0; few = omega arith; outcome = Standing s; runs = refl; count_is = inr (one, switching) })
+            (λ one. record { made = 0; few = omega arith; outcome = Standing s; runs = refl; count_is = inr (one, switched switching) })
             (λ both. whole-at count (omega (arith, both, few, most)))
 
     left-within : LeavesForced disk first → (areas : Areas) → IsForcedOrFrom first.book.chain.first first.book.forced (whole_from call.request s.entries behind) behind areas
@@ -301,6 +327,9 @@ module _ {S : Type 0} (tells : Type 0) (disk : S → Disk) (sources : List Named
       left = λ told forced alive. forced-left told;
       moments = λ told forced. moments-standing comes told forced;
       now = λ told forced areas may. now-standing told areas may;
+      answered = λ told forced.
+          answered-one sources s first.book call (Standing t) (disk first.store) (disk later.store) ran (grows-standing comes) (moments-standing comes told forced) (now-standing told);
+      roots = called.roots;
     }
 
   -- where the store was at fault
@@ -337,6 +366,10 @@ module _ {S : Type 0} (tells : Type 0) (disk : S → Disk) (sources : List Named
       left = λ told forced alive. not-alive alive;
       moments = λ told forced. moments-within (Failed entries) ran-failed comes.1 told forced;
       now = λ told forced areas may. now-failed told forced areas may;
+      answered = λ told forced.
+          answered-one sources s first.book call (Failed entries) (disk first.store) (disk later.store) ran-failed (called.grows.0, comes.1 ∙ called.grows.1)
+          (moments-within (Failed entries) ran-failed comes.1 told forced) (now-failed told forced);
+      roots = called.roots;
     }
 
   led-call : Leads tells disk sources first later s (call ∷ [])

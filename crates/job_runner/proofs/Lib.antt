@@ -1,3 +1,4 @@
+pub mod AnsweredLemmas
 pub mod CallLemmas
 pub mod FrontLemmas
 pub mod LedLemmas

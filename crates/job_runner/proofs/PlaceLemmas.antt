@@ -14,7 +14,6 @@ use Rattle.library_steps.specs.State.{State, JobState, job_at, new_job}
 use Rattle.library_steps.specs.History.{is_running}
 use Rattle.library_model.specs.Ending.{is_end_job}
 use Rattle.library_core.specs.Running.{runs_after}
-use Rattle.answered_sources.specs.Answered.{AreAnswered}
 use Rattle.deposited_entries.specs.Deposits.{AreShort}
 use Rattle.joint_state.specs.Sound.{IsSound}
 use Rattle.input_scripts.specs.declared.Scripts.{Scripts}
@@ -152,7 +151,6 @@ module _ (scripts : Scripts) (old new : State) (calls : List Call) (room : ℕ) 
   IsSession-called : (left : ℕ) → IsSound new → unended kept ≤ left + (if is_end_job call.request then 1 else 0) → IsSession scripts new (calls ++ call ∷ []) left (slice_set kept (job - 1) (place_after progress calls call))
   IsSession-called left sound fits = record {
     sound = sound;
-    answered = called.is.answered;
     short = called.is.short;
     askable = called.is.askable;
     jobs = length-slice_set kept (job - 1) (place_after progress calls call) ∙ called.is.jobs;
@@ -198,7 +196,6 @@ pub IsSession-same : (scripts : Scripts) (state : State) (calls later : List Cal
 IsSession-same scripts state calls later room more kept job place next is from here same enough runs still on =
     rw same (record {
       sound = is.sound;
-      answered = is.answered;
       short = is.short;
       askable = is.askable;
       jobs = length-slice_set kept (job - 1) next ∙ is.jobs;
@@ -272,13 +269,12 @@ first-place-is scripts jobs at place script begun named there within fresh = rw 
   goes_on = λ e. record { no_end = search rules; reply = None; waits = refl; stands = rw (script-at scripts.scripts at script there) (IsProgress-first script) };
 })
 
-pub IsSession-first : (scripts : Scripts) (state : State) (room : ℕ) (kept : List Place) → IsSound state → AreAnswered scripts.sources → AreShort scripts.sources → state.jobs ≡ map new_job scripts.names
+pub IsSession-first : (scripts : Scripts) (state : State) (room : ℕ) (kept : List Place) → IsSound state → AreShort scripts.sources → state.jobs ≡ map new_job scripts.names
     → IsTrue (list_all is_askable_script scripts.scripts) → length scripts.names ≡ length scripts.scripts → length scripts.scripts ≤ MOST_JOBS → MOST_JOBS ≤ room → kept ≡ map first_place scripts.scripts → IsSession scripts state [] room kept
-IsSession-first scripts state room kept sound answered short begun askable named few enough fresh =
+IsSession-first scripts state room kept sound short begun askable named few enough fresh =
     let many : length kept ≡ length scripts.scripts = rw fresh (length-map scripts.scripts first_place) in
     record {
       sound = sound;
-      answered = answered;
       short = short;
       askable = askable;
       jobs = many;

@@ -10,9 +10,9 @@ use Rattle.library_model.specs.declared.calls.Call.{Call}
 use Rattle.library_model.specs.declared.sources.NamedSource.{NamedSource}
 use Rattle.library_steps.specs.State.{State, begun}
 use Rattle.library_steps.specs.History.{Outcome}
-use Rattle.library_core.specs.Parts.{LibraryOver}
-use Rattle.library_core.specs.Fronts.{entries_at, IsWhole, IsFront}
-use Rattle.job_runner.specs.Moments.{IsLeft, LeavesForced, Leads, StandsForced, HasRun}
+use Rattle.kept_library.specs.Parts.{LibraryOver}
+use Rattle.journal_fronts.specs.Fronts.{entries_at, IsAnswered, IsWhole, IsFront}
+use Rattle.job_runner.specs.Moments.{IsAnsweredBy, IsLeft, LeavesForced, Leads, StandsForced, HasRun}
 use Rattle.job_runner.specs.Places.{BeginsJobs}
 use Rattle.job_runner.specs.Session.{SessionOver, HasMade}
 use Rattle.job_runner.proofs.FrontLemmas.{whole-none}
@@ -28,6 +28,21 @@ front-left sources start book calls acknowledged outcome areas all receiver left
   least = left.ends.has;
   most = left.most;
   spells = subst (λ (n : ℕ). SpellEntries n (take left.count (entries_at outcome)) areas) receiver left.spells;
+}
+
+front-answered : (sources : List NamedSource) (start : State) (book : BookState) (calls : List Call) (outcome : Outcome) (old new : Disk) (number : ℕ) → book.forced ≡ length start.entries
+    → book.chain.first ≡ FIRST_RECEIVER → IsAnsweredBy sources start book calls outcome old new number → IsAnswered sources start calls outcome old new number
+front-answered sources start book calls outcome old new number all receiver one = record {
+  moment = one.moment;
+  begun = one.begun;
+  ended = one.ended;
+  reached = one.reached;
+  runs = one.runs;
+  before = λ areas left. elim (one.before areas left) [
+    | inl since ↦ inl since
+    | inr whole ↦ inr (front-left sources start book (take number calls) [] one.reached areas all receiver whole)
+  ];
+  since = λ areas left. front-left sources start book calls (take number calls) outcome areas all receiver (one.since areas left);
 }
 
 -- from such a start a stop leaves whole calls at every moment, and one now has left all that were acknowledged
@@ -46,6 +61,10 @@ HasRun-made tells disk gives first later start calls forced made = from-led (mad
           (λ areas left. front-left first.scripts.sources start first.library.book calls [] led.outcome areas forced.all forced.receiver left);
       now = λ told areas may.
           front-left first.scripts.sources start first.library.book calls calls led.outcome areas forced.all forced.receiver (led.now told (forced.left told) areas may);
+      answered = λ told number few.
+          front-answered first.scripts.sources start first.library.book calls led.outcome (disk first.library.store) (disk later.library.store) number forced.all forced.receiver
+          (led.answered told (forced.left told) number few);
+      roots = led.roots;
     }
 
 -- jobs that begin leave the disk and what is forced

@@ -4,11 +4,10 @@ use Rattle.std.specs.List.{list_all}
 use Rattle.library_model.specs.declared.calls.Call.{Call}
 use Rattle.library_model.specs.declared.replies.Reply.{Reply}
 use Rattle.library_model.specs.declared.requests.Request.{Request}
-use Rattle.library_core.specs.Parts.{LibraryOver}
+use Rattle.kept_library.specs.Parts.{LibraryOver}
 use Rattle.library_steps.specs.State.{State, JobState, job_at, new_job}
 use Rattle.library_steps.specs.History.{is_running}
 use Rattle.library_model.specs.Ending.{is_end_job}
-use Rattle.answered_sources.specs.Answered.{AreAnswered}
 use Rattle.deposited_entries.specs.Deposits.{AreShort}
 use Rattle.joint_state.specs.Sound.{IsSound}
 use Rattle.library_model.specs.declared.limits.TheConstants.{MOST_JOBS}
@@ -55,10 +54,9 @@ pub record IsPlace (scripts : List Script) (jobs : List JobState) (calls : List 
 abbrev pub unended : List Place → ℕ
 unended kept = count_by (λ place. not place.ended) kept
 
--- a sound library, sources that can be made a file so far and fit into the journal, each job's place, and room in the history for the ENDJOB of each job
+-- a sound library, sources that fit into the journal, each job's place, and room in the history for the ENDJOB of each job
 pub record IsSession (scripts : Scripts) (state : State) (calls : List Call) (room : ℕ) (kept : List Place) : Type 0 where
   pub sound : IsSound state
-  pub answered : AreAnswered scripts.sources
   pub short : AreShort scripts.sources
   pub askable : IsTrue (list_all is_askable_script scripts.scripts)
   pub jobs : length kept ≡ length scripts.scripts

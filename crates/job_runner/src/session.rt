@@ -5,7 +5,6 @@ ghost use Rattle.library_model.specs.declared.limits.TheConstants.{MOST_JOBS};
 ghost use Rattle.library_model.specs.declared.calls.Call.{Call};
 ghost use Rattle.library_model.specs.declared.replies.Reply.{Reply as ReplyValue};
 ghost use Rattle.library_steps.specs.State.{new_job};
-ghost use Rattle.answered_sources.specs.Answered.{AreAnswered};
 ghost use Rattle.built_requests.specs.Built.{is_built};
 ghost use Rattle.deposited_entries.specs.Deposits.{AreShort};
 ghost use Rattle.joint_state.specs.Sound.{IsSound};
@@ -25,6 +24,7 @@ use input_scripts::{Schedule, ScriptList, Scripts};
 use job_history::history::History;
 use job_language::progress::Progress;
 use job_language::statements::Script;
+use kept_library::KeptLibrary;
 use library_core::library::{Library, call};
 use library_model::calls::Call;
 use library_model::limits::MOST_JOBS;
@@ -88,17 +88,16 @@ impl<S: Store, C: Clock> Model for Session<S, C> {
 }
 
 impl<S: Store, C: Clock> Session<S, C> {
-    /// Begins the jobs of the scripts in order over a library in which no job has begun. Want of memory hands library and clock back.
+    /// Begins the jobs of the scripts in order over a library in which no job has begun. Want of memory hands store and clock back.
     pub fn new(
         alloc: Global,
-        library: Library<S>,
+        library: KeptLibrary<S>,
         clock: C,
         scripts: Scripts,
-    ) -> Result<Session<S, C>, (Library<S>, C)>
+    ) -> Result<Session<S, C>, (S, C)>
         requires alive { library.failed ≡ false }
         requires sound { IsSound library.state }
         requires none { library.state.jobs ≡ [] }
-        requires answered { AreAnswered scripts.sources }
         requires short { AreShort scripts.sources }
         requires askable { IsTrue (list_all is_askable_script scripts.scripts) }
         requires named { length scripts.names ≡ length scripts.scripts }
@@ -107,20 +106,20 @@ impl<S: Store, C: Clock> Session<S, C> {
         ensures calls { IfOk result (λ session. session.calls ≡ []) }
         ensures begun { IfOk result (λ session. BeginsJobs library session.library scripts.names) }
         ensures clock { IfOk result (λ session. session.clock ≡ clock) }
-        ensures back { IfErr result (λ parts. (parts.0.store ≡ library.store) × (parts.1 ≡ clock)) }
+        ensures back { IfErr result (λ parts. (parts.0 ≡ library.store) × (parts.1 ≡ clock)) }
     {
         // A sound library in which its first jobs begin stays sound.
         jobs_begin_in_a_sound_library();
-        let mut library = library;
+        let mut library = Library::of(library);
         let mut history = History::new(alloc);
         if begin_jobs(&mut library, scripts.names.as_slice()).is_err() {
-            return Err((library, clock));
+            return Err((library.into_store(), clock));
         }
         if history.reserve(MOST_JOBS as u32).is_err() {
-            return Err((library, clock));
+            return Err((library.into_store(), clock));
         }
         match first_places(alloc, scripts.scripts.as_slice()) {
-            Err(_) => Err((library, clock)),
+            Err(_) => Err((library.into_store(), clock)),
             Ok(places) => Ok(Session {
                 library,
                 clock,

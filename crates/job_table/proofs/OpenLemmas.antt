@@ -14,26 +14,32 @@ use Rattle.std.proofs.lemmas.Map.Entries.{All-lookup}
 use Rattle.std.proofs.lemmas.Map.Made.{lookup-map_values}
 use Rattle.library_model.specs.Named.{Named, named, same_name}
 use Rattle.library_steps.specs.State.{OpenState}
-use Rattle.library_steps.specs.Reads.{positioned, has_read, entry_found}
+use Rattle.library_steps.specs.Reads.{as_rows, positioned, has_read, entry_found, row_found}
 use Rattle.library_steps.specs.ChangeRecord.{is_current, without_current}
 use Rattle.file_model.specs.KeyOrder.{merged_parts}
+use Rattle.dds_logical.specs.declared.join_views.JoinView.{JoinView}
+use Rattle.file_model.specs.Joins.{RowPlace}
 use Rattle.file_model.specs.Paths.{PathEntry}
 use Rattle.file_model.specs.Positions.{Position}
 use Rattle.file_cursor.specs.declared.places.Hit.{Hit}
 use Rattle.open_position.specs.declared.position.StandAt.{StandAt}
+use Rattle.open_position.specs.declared.position.StandAt.TheVariants as places
 use Rattle.open_position.specs.declared.position.Side.{Side}
+use Rattle.open_position.specs.declared.position.Side.TheVariants as sides
+use Rattle.join_position.specs.RowStand as rows
 use Rattle.open_position.specs.Reads.{stood, entry_hit}
 use Rattle.lock_table.specs.declared.levels.Call.{Call}
 use Rattle.key_spec.specs.declared.KeyPart.{KeyPart}
 use Rattle.job_table.specs.declared.opens.OpenChange.{OpenChange}
-use Rattle.job_table.specs.declared.opens.OpenChange.TheVariants.{Positioned, HasRead, WithoutCurrent, WithoutRecord, Committed, RolledBack}
+use Rattle.job_table.specs.declared.opens.OpenChange.TheVariants.{Positioned, HasRead, HasReadRow, WithoutCurrent, WithoutRecord, Committed, RolledBack}
 use Rattle.commit_level.specs.declared.Level.{Level}
 use Rattle.library_model.specs.declared.requests.OpenFile.{OpenFile}
 use Rattle.library_steps.specs.Opens.{new_open, with_open, without_open}
 use Rattle.job_table.specs.Changes.{RoomyCycle}
 use Rattle.job_table.specs.Table.{RoomyJob, job_state}
-use Rattle.job_table.specs.Opens.{OpenOrder, KeptOpen, AreKept, HasOneNumber, AllOfNumber, SameOpen, state_in, order_in, states_of, orders_of}
-use Rattle.job_table.specs.OpenChanges.{state_after, open_after, opens_after, job_after}
+use Rattle.job_table.specs.Opens.{JoinOrder, OpenOrder, KeptOpen, AreKept, HasOneNumber, AllOfNumber, SameOpen, state_in, order_in, states_of, orders_of}
+use Rattle.job_table.specs.declared.opens.RowRead.{RowRead}
+use Rattle.job_table.specs.OpenChanges.{among_rows, stood_by, place_by, IsStood, state_after, open_after, opens_after, job_after}
 
 abbrev pub changed_entry : (KeptOpen → KeptOpen) → List ℕ × KeptOpen → List ℕ × KeptOpen
 changed_entry change entry = (entry.0, change entry.1)
@@ -45,20 +51,26 @@ number-either true one other number first second = first
 number-either false one other number first second = second
 
 -- no change gives an open another number
-pub number-state_after : (change : OpenChange) (formats : List (List KeyPart)) (opened : OpenState) → (state_after change formats opened).number ≡ opened.number
-number-state_after (Positioned number side at) formats opened =
-    number-either (opened.number == number) (positioned None (stood side (merged_parts formats) at) opened) opened opened.number refl refl
-number-state_after (HasRead number call hit) formats opened =
-    number-either (opened.number == number) (has_read call (entry_found (entry_hit (merged_parts formats) hit)) opened) opened opened.number refl refl
-number-state_after (WithoutCurrent number) formats opened = number-either (opened.number == number) (without_current opened) opened opened.number refl refl
-number-state_after (WithoutRecord member rrn) formats opened = number-either (is_current member rrn opened) (without_current opened) opened opened.number refl refl
-number-state_after Committed formats opened = number-either opened.commit _ opened opened.number refl refl
-number-state_after RolledBack formats opened = number-either opened.commit _ _ opened.number refl refl
+number-stood : (join : Option JoinOrder) (side : Side) (at : StandAt) (formats : List (List KeyPart)) (opened : OpenState) → (stood_by join side at formats opened).number ≡ opened.number
+number-stood None side at formats opened = refl
+number-stood (Some join) side at formats opened = refl
+
+pub number-state_after : (change : OpenChange) (order : OpenOrder) (opened : OpenState) → (state_after change order opened).number ≡ opened.number
+number-state_after (Positioned number side at) order opened =
+    number-either (opened.number == number) (stood_by order.join side at order.formats opened) opened opened.number (number-stood order.join side at order.formats opened) refl
+number-state_after (HasRead number call hit) order opened =
+    number-either (opened.number == number) (has_read call (entry_found (entry_hit (merged_parts order.formats) hit)) opened) opened opened.number refl refl
+number-state_after (HasReadRow number call read) order opened =
+    number-either (opened.number == number) (has_read call (row_found (place_by order.join read)) opened) opened opened.number refl refl
+number-state_after (WithoutCurrent number) order opened = number-either (opened.number == number) (without_current opened) opened opened.number refl refl
+number-state_after (WithoutRecord member rrn) order opened = number-either (is_current member rrn opened) (without_current opened) opened opened.number refl refl
+number-state_after Committed order opened = number-either opened.commit _ opened opened.number refl refl
+number-state_after RolledBack order opened = number-either opened.commit _ _ opened.number refl refl
 
 number-at : (change : OpenChange) (opens : Named KeptOpen) (k : ℕ) (d : List ℕ × OpenState)
     → (get_or (states_of (map (changed_entry (open_after change)) opens)) k d).1.number ≡ (get_or (states_of opens) k d).1.number
 number-at change [] k d = refl
-number-at change (entry ∷ opens) zero d = number-state_after change entry.1.order.formats entry.1.state
+number-at change (entry ∷ opens) zero d = number-state_after change entry.1.order entry.1.state
 number-at change (entry ∷ opens) (suc k) d = number-at change opens k d
 
 pub AreKept-map : (change : OpenChange) (opens : Named KeptOpen) (opened : ℕ) → AreKept opens opened → AreKept (map (changed_entry (open_after change)) opens) opened
@@ -72,7 +84,7 @@ AreKept-map change opens opened kept =
         had = λ k d within. rw (number-at change opens k d) (kept.numbered.had k d (omega (arith, long)));
       };
       alike = All-map HasOneNumber (changed_entry (open_after change)) opens
-          (λ k d within. kept.alike k d within ∙ sym (number-state_after change (get_or opens k d).1.order.formats (get_or opens k d).1.state));
+          (λ k d within. kept.alike k d within ∙ sym (number-state_after change (get_or opens k d).1.order (get_or opens k d).1.state));
     }
 
 -- ---- opens that are closed
@@ -127,7 +139,7 @@ same-opens (entry ∷ opens) alike = ((refl, sym (alike 0 entry (omega arith))),
 
 pub opens_after-kept : (change : OpenChange) (opens : Named KeptOpen) → states_of (map (changed_entry (open_after change)) opens) ≡ opens_after change (states_of opens) (orders_of opens)
 opens_after-kept change [] = refl
-opens_after-kept change (entry ∷ opens) = ap (λ rest. (entry.0, state_after change entry.1.order.formats entry.1.state) ∷ rest) (opens_after-kept change opens)
+opens_after-kept change (entry ∷ opens) = ap (λ rest. (entry.0, state_after change entry.1.order entry.1.state) ∷ rest) (opens_after-kept change opens)
 
 pub orders-kept : (change : OpenChange) (opens : Named KeptOpen) → orders_of (map (changed_entry (open_after change)) opens) ≡ orders_of opens
 orders-kept change [] = refl
@@ -177,23 +189,23 @@ named-alone name opens opened found kept is =
 
 -- the change makes of the open what the function makes of it
 abbrev Makes : OpenChange → (OpenState → OpenState) → List ℕ × OpenState → List ℕ × OpenOrder → Type 0
-Makes change each entry order = entry.1.number ≡ order.1.number → state_after change order.1.formats entry.1 ≡ each entry.1
+Makes change each entry order = entry.1.number ≡ order.1.number → state_after change order.1 entry.1 ≡ each entry.1
 
 pub opens_after-each : (change : OpenChange) (each : OpenState → OpenState) (opens : Named OpenState) (orders : Named OpenOrder) → AllZip SameOpen opens orders
-    → ((entry : List ℕ × OpenState) → All (λ order. entry.1.number ≡ order.1.number → state_after change order.1.formats entry.1 ≡ each entry.1) orders)
+    → ((entry : List ℕ × OpenState) → All (λ order. entry.1.number ≡ order.1.number → state_after change order.1 entry.1 ≡ each entry.1) orders)
     → opens_after change opens orders ≡ map (λ entry. (entry.0, each entry.1)) opens
 opens_after-each change each [] [] same makes = refl
 opens_after-each change each [] (order ∷ orders) same makes = refl
 opens_after-each change each (entry ∷ opens) [] same makes = absurd same
 opens_after-each change each (entry ∷ opens) (order ∷ orders) same makes =
-    let first : state_after change order.1.formats entry.1 ≡ each entry.1 = makes entry 0 order (omega arith) same.0.1 in
+    let first : state_after change order.1 entry.1 ≡ each entry.1 = makes entry 0 order (omega arith) same.0.1 in
     let rest = opens_after-each change each opens orders same.1 (λ other k d within. makes other (suc k) d (omega arith)) in
     λ i. (entry.0, first i) ∷ rest i
 
 -- where the change doesn't read how an open reads
 pub opens_after-same : (change : OpenChange) (each : OpenState → OpenState) (opens : Named OpenState) (orders : Named OpenOrder) → AllZip SameOpen opens orders
-    → ((formats : List (List KeyPart)) (opened : OpenState) → state_after change formats opened ≡ each opened) → opens_after change opens orders ≡ map (λ entry. (entry.0, each entry.1)) opens
-opens_after-same change each opens orders same makes = opens_after-each change each opens orders same (λ entry k d within numbers. makes (get_or orders k d).1.formats entry.1)
+    → ((order : OpenOrder) (opened : OpenState) → state_after change order opened ≡ each opened) → opens_after change opens orders ≡ map (λ entry. (entry.0, each entry.1)) opens
+opens_after-same change each opens orders same makes = opens_after-each change each opens orders same (λ entry k d within numbers. makes (get_or orders k d).1 entry.1)
 
 if-number : (a b : ℕ) (one two other : OpenState) → (a ≡ b → one ≡ two) → (if a == b then one else other) ≡ (if a == b then two else other)
 if-number a b one two other same =
@@ -202,15 +214,40 @@ if-number a b one two other same =
       | false ↦ λ e. refl
     ] refl
 
--- a position that is set
-pub opens_after-positioned : (number : ℕ) (side : Side) (at : StandAt) (position : Position PathEntry) (opens : Named OpenState) (orders : Named OpenOrder) → AllZip SameOpen opens orders
-    → AllOfNumber number (λ order. stood side (merged_parts order.formats) at ≡ position) orders
-    → opens_after (Positioned number side at) opens orders ≡ map (λ entry. (entry.0, if entry.1.number == number then positioned None position entry.1 else entry.1)) opens
-opens_after-positioned number side at position opens orders same all =
-    opens_after-each (Positioned number side at) (λ opened. if opened.number == number then positioned None position opened else opened) opens orders same
+-- a position that is set, of a join file among its rows
+rows-stood : (side : Side) (parts : List KeyPart) (at : StandAt) → rows.stood side parts at ≡ as_rows (stood side parts at)
+rows-stood side parts places.Low = refl
+rows-stood side parts places.High = refl
+rows-stood sides.Before parts (places.Values values) = refl
+rows-stood sides.Past parts (places.Values values) = refl
+rows-stood sides.Before parts (places.Number rrn) = refl
+rows-stood sides.Past parts (places.Number rrn) = refl
+
+pub stood-is : (view : Option JoinView) (join : Option JoinOrder) (side : Side) (at : StandAt) (formats : List (List KeyPart)) (position : Position PathEntry) (opened : OpenState)
+    → IsStood view join side at formats position → stood_by join side at formats opened ≡ positioned view position opened
+stood-is None None side at formats position opened is = ap (λ p. positioned None p opened) is
+stood-is None (Some join) side at formats position opened is = absurd is
+stood-is (Some view) None side at formats position opened is = absurd is
+stood-is (Some view) (Some join) side at formats position opened is = ap (λ p. among_rows p opened) (rows-stood side join.parts at ∙ ap as_rows is)
+
+pub opens_after-positioned : (number : ℕ) (side : Side) (at : StandAt) (view : Option JoinView) (position : Position PathEntry) (opens : Named OpenState) (orders : Named OpenOrder)
+    → AllZip SameOpen opens orders → AllOfNumber number (λ order. IsStood view order.join side at order.formats position) orders
+    → opens_after (Positioned number side at) opens orders ≡ map (λ entry. (entry.0, if entry.1.number == number then positioned view position entry.1 else entry.1)) opens
+opens_after-positioned number side at view position opens orders same all =
+    opens_after-each (Positioned number side at) (λ opened. if opened.number == number then positioned view position opened else opened) opens orders same
     (λ entry k d within numbers.
-    if-number entry.1.number number (positioned None (stood side (merged_parts (get_or orders k d).1.formats) at) entry.1) (positioned None position entry.1) entry.1
-    (λ e. ap (λ p. positioned None p entry.1) (all k d within (sym numbers ∙ e))))
+    if-number entry.1.number number (stood_by (get_or orders k d).1.join side at (get_or orders k d).1.formats entry.1) (positioned view position entry.1) entry.1
+    (λ e. stood-is view (get_or orders k d).1.join side at (get_or orders k d).1.formats position entry.1 (all k d within (sym numbers ∙ e))))
+
+-- a row that is read
+pub opens_after-row : (number : ℕ) (call : Call) (read : RowRead) (place : RowPlace) (opens : Named OpenState) (orders : Named OpenOrder) → AllZip SameOpen opens orders
+    → AllOfNumber number (λ order. place_by order.join read ≡ place) orders
+    → opens_after (HasReadRow number call read) opens orders ≡ map (λ entry. (entry.0, if entry.1.number == number then has_read call (row_found place) entry.1 else entry.1)) opens
+opens_after-row number call read place opens orders same all =
+    opens_after-each (HasReadRow number call read) (λ opened. if opened.number == number then has_read call (row_found place) opened else opened) opens orders same
+    (λ entry k d within numbers.
+    if-number entry.1.number number (has_read call (row_found (place_by (get_or orders k d).1.join read)) entry.1) (has_read call (row_found place) entry.1) entry.1
+    (λ e. ap (λ p. has_read call (row_found p) entry.1) (all k d within (sym numbers ∙ e))))
 
 -- an entry that is read
 pub opens_after-read : (number : ℕ) (call : Call) (hit : Hit) (found : PathEntry) (opens : Named OpenState) (orders : Named OpenOrder) → AllZip SameOpen opens orders

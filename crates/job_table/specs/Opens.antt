@@ -1,33 +1,55 @@
 -- How a job's opens are kept, and what they are asked: which of them are over a member, and which are under commitment control. (Our own.)
-use Rattle.std.specs.Prelude.{◌≡◌, ℕ, ◌<◌, ◌≤◌, ◌==◌, ◌&&◌, Bool, Option, List, length, map, All, AllPairs}
+use Rattle.std.specs.Prelude.{◌≡◌, ℕ, ◌<◌, ◌≤◌, ◌==◌, ◌&&◌, Bool, Option, Some, None, List, map, All, AllPairs}
 use Rattle.std.specs.List.{list_any}
 use Rattle.key_spec.specs.declared.KeyPart.{KeyPart}
-use Rattle.file_model.specs.Positions.{Start}
+use Rattle.file_model.specs.Joins.{RowPlace}
+use Rattle.file_model.specs.Positions.{Position, Start}
 use Rattle.open_position.specs.OpenStand.{OpenStand}
 use Rattle.library_model.specs.declared.limits.TheConstants.{MOST_OPENS}
 use Rattle.library_model.specs.Named.{Named, same_name}
 use Rattle.library_steps.specs.State.{OpenState}
 use Rattle.job_table.specs.declared.reads.OpenReads.{OpenReads}
+use Rattle.job_table.specs.declared.reads.OpenRows.{OpenRows}
 
--- how an open reads: its number, the number of its path where it reads by one, and the positions of the key in each format
+-- how the rows of a join file are read: the numbers of the secondary files' paths, the positions of the primary's key, and that of
+-- JDUPSEQ in each secondary file
+pub record JoinOrder : Type 0 where
+  pub paths : List ℕ
+  pub parts : List KeyPart
+  pub sequences : List KeyPart
+
+-- how an open reads: its number, the number of its path where it reads by one, the positions of the key in each format, and the rows
+-- of a join file
 pub record OpenOrder : Type 0 where
   pub number : ℕ
   pub path : Option ℕ
   pub formats : List (List KeyPart)
+  pub join : Option JoinOrder
 
 -- an open as it is kept
 pub record KeptOpen : Type 0 where
   pub state : OpenState
   pub order : OpenOrder
 
+-- ---- the rows of a join file
+
+-- where it stands among them
+abbrev pub rows_in : Option OpenRows → Position RowPlace
+rows_in None = Start
+rows_in (Some rows) = rows.position.position
+
+abbrev pub join_by : Option OpenRows → Option JoinOrder
+join_by None = None
+join_by (Some rows) = Some (record { paths = rows.paths; parts = rows.position.parts; sequences = rows.position.sequences })
+
 -- ---- a new open
 
 -- it stands at the start, and keeps the position at boundaries where it is under commitment
 abbrev pub IsNewReads : (commit : Bool) → OpenReads → Type 0
-IsNewReads commit reads = reads.position ≡ record { position = Start; boundary = Start; formats = reads.position.formats; marks = commit }
+IsNewReads commit reads = (reads.position ≡ record { position = Start; boundary = Start; formats = reads.position.formats; marks = commit }) × (rows_in reads.rows ≡ Start)
 
 abbrev pub order_by : (number : ℕ) → OpenReads → OpenOrder
-order_by number reads = record { number = number; path = reads.path; formats = reads.position.formats }
+order_by number reads = record { number = number; path = reads.path; formats = reads.position.formats; join = join_by reads.rows }
 
 -- the position of an open: it is kept at boundaries where the open is under commitment
 pub record IsPositionOf (commit : Bool) (stand : OpenStand) : Type 0 where

@@ -1,19 +1,21 @@
 //! The jobs that have begun, by number from 1. A job stands in `job.rt`, and who uses a member in `users.rt`.
-ghost use Rattle.std.specs.Prelude.{◌≡◌, ℕ, ◌+◌, ◌-◌, ◌<◌, ◌≤◌, ◌==◌, Some, None, not, [], ◌∷◌, ◌++◌, length, map, filter, All, IsTrue, IfOk, IfSome, OnOk, OnErr, option_map, option_copied, slice_get};
+ghost use Rattle.std.specs.Prelude.{◌≡◌, ℕ, ◌+◌, ◌-◌, ◌<◌, ◌≤◌, ◌==◌, Option, Some, None, not, [], ◌∷◌, ◌++◌, length, map, filter, All, IsTrue, IfOk, IfSome, OnOk, OnErr, option_map, option_copied, slice_get};
 ghost use Rattle.std.specs.List.{list_any, AllZip};
+ghost use Rattle.dds_logical.specs.declared.join_views.JoinView.{JoinView};
 ghost use Rattle.file_model.specs.KeyOrder.{merged_parts};
+ghost use Rattle.file_model.specs.Joins.{RowPlace};
 ghost use Rattle.file_model.specs.Paths.{PathEntry};
 ghost use Rattle.file_model.specs.Positions.{Position};
 ghost use Rattle.file_cursor.specs.CursorPosition.{entry_of};
 ghost use Rattle.open_position.specs.OpenStand.{IsEntryIn};
-ghost use Rattle.open_position.specs.Reads.{stood, IsStandAt, entry_hit};
+ghost use Rattle.open_position.specs.Reads.{entry_hit};
 ghost use Rattle.library_model.specs.declared.limits.TheConstants.{MOST_OPENS};
 ghost use Rattle.library_model.specs.Named.{named, same_name};
 ghost use Rattle.library_steps.specs.declared.limits.TheConstants.{MOST_GROUP_CHANGES, MOST_GROUP_BYTES};
 ghost use Rattle.library_steps.specs.State.{new_job, job_at, job_changed, with_opens};
 ghost use Rattle.library_steps.specs.History.{is_running};
 ghost use Rattle.library_steps.specs.Opens.{with_open, without_open};
-ghost use Rattle.library_steps.specs.Reads.{open_changed, positioned, has_read, entry_found};
+ghost use Rattle.library_steps.specs.Reads.{open_changed, positioned, has_read, entry_found, row_found};
 ghost use Rattle.library_steps.specs.ChangeRecord.{without_current, without_record};
 ghost use Rattle.library_steps.specs.Commitment.{with_level, without_cycle, committed_open, rolled_back_open, has_committed_open};
 ghost use Rattle.library_steps.specs.EndJob.{ended_job};
@@ -21,14 +23,14 @@ ghost use Rattle.library_steps.specs.Locking.{is_committed};
 ghost use Rattle.library_steps.specs.Uses.{changes_in};
 ghost use Rattle.library_steps.specs.SlotChange.{change_bytes, noted, with_cycle, has_changed_record};
 ghost use Rattle.lawful_states.specs.Jobs.{cycle_from};
-ghost use Rattle.job_table.specs.OpenChanges.{CanMake, job_after};
+ghost use Rattle.job_table.specs.OpenChanges.{CanMake, CanStand, IsStood, IsRowRead, place_by, job_after};
 ghost use Rattle.job_table.specs.Opens.{IsNewReads, order_by, AllOfNumber, SameOpen, AreNumbered};
 ghost use Rattle.job_table.specs.Table.{HasRoomFor, IsWhole, job_of_number, orders_at, moves_at, changed_at, changes_held, bytes_held, closed_job};
 
 use crate::changes::{Undo, Undos};
 use crate::job::Job;
 use crate::open::Open;
-use crate::opens::{OpenChange, OpenNumbers};
+use crate::opens::{OpenChange, OpenNumbers, RowRead};
 use crate::reads::OpenReads;
 use commit_level::Level;
 use field_types::lists::ListOf;
@@ -252,9 +254,10 @@ impl Jobs {
     /// Sets the position of its open with that number to this side of a place.
     pub fn set_position(&mut self, number: u32, opened: u32, side: Side, at: StandAt<'_>)
         requires running { IsTrue (is_running (job_at number self.old.jobs)) }
-        requires place { AllOfNumber opened (λ order. IsStandAt order.formats at) (orders_at number self.old) }
-        ensures { (position : Position PathEntry) → AllOfNumber opened (λ order. stood side (merged_parts order.formats) at.entry ≡ position) (orders_at number self.old)
-            → self.new ≡ record self.old { jobs = job_changed (number - 1) (open_changed opened (positioned None position)) self.old.jobs } }
+        requires place { AllOfNumber opened (λ order. CanStand order.join order.formats at) (orders_at number self.old) }
+        ensures { (join : Option JoinView) (position : Position PathEntry)
+            → AllOfNumber opened (λ order. IsStood join order.join side at.entry order.formats position) (orders_at number self.old)
+            → self.new ≡ record self.old { jobs = job_changed (number - 1) (open_changed opened (positioned join position)) self.old.jobs } }
     {
         self.change_opens(number, &OpenChange::Positioned(opened, side, at));
     }
@@ -267,6 +270,16 @@ impl Jobs {
             → self.new ≡ record self.old { jobs = job_changed (number - 1) (open_changed opened (has_read call (entry_found entry))) self.old.jobs } }
     {
         self.change_opens(number, &OpenChange::HasRead(opened, call, *hit));
+    }
+
+    /// Notes what its open with that number of a join file has read.
+    pub fn note_row(&mut self, number: u32, opened: u32, call: Call, read: RowRead<'_>)
+        requires running { IsTrue (is_running (job_at number self.old.jobs)) }
+        requires row { AllOfNumber opened (λ order. IsRowRead order.join read) (orders_at number self.old) }
+        ensures { (place : RowPlace) → AllOfNumber opened (λ order. place_by order.join read.entry ≡ place) (orders_at number self.old)
+            → self.new ≡ record self.old { jobs = job_changed (number - 1) (open_changed opened (has_read call (row_found place))) self.old.jobs } }
+    {
+        self.change_opens(number, &OpenChange::HasReadRow(opened, call, read));
     }
 
     /// Its open with that number has no current record any more.

@@ -14,6 +14,6 @@ mod users;
 pub use changes::{Undo, UndoParts, Undos};
 pub use jobs::{Jobs, LAST_OPEN};
 pub use open::{Open, OpenAt, first_of};
-pub use opens::OpenNumbers;
-pub use reads::OpenReads;
+pub use opens::{OpenNumbers, RowRead};
+pub use reads::{OpenReads, OpenRows};
 pub use users::lesser;

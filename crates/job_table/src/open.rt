@@ -1,19 +1,18 @@
 //! One open of a job.
-ghost use Rattle.std.specs.Prelude.{◌≡◌, ◌==◌, slice_get, unwrap_or};
+ghost use Rattle.std.specs.Prelude.{◌≡◌, ◌==◌, None, slice_get, unwrap_or, option_copied};
 ghost use Rattle.std.specs.List.{list_any};
-ghost use Rattle.file_model.specs.Positions.{Start};
+ghost use Rattle.file_model.specs.Positions.{Start, On};
 ghost use Rattle.file_cursor.specs.CursorPosition.{entry_of};
 ghost use Rattle.open_position.specs.OpenStand.{IsEntryIn};
-ghost use Rattle.open_position.specs.Reads.{IsStandAt};
 ghost use Rattle.library_steps.specs.Opens.{first_of, new_open};
 ghost use Rattle.library_steps.specs.Reads.{at_format, current_after};
 ghost use Rattle.library_steps.specs.ChangeRecord.{without_record};
 ghost use Rattle.library_steps.specs.Commitment.{committed_open, rolled_back_open};
-ghost use Rattle.job_table.specs.OpenChanges.{CanMake, open_after};
-ghost use Rattle.job_table.specs.Opens.{IsNewReads, order_by};
+ghost use Rattle.job_table.specs.OpenChanges.{CanMake, CanStand, IsRowRead, place_by, open_after};
+ghost use Rattle.job_table.specs.Opens.{IsNewReads, order_by, rows_in, join_by};
 
-use crate::opens::OpenChange;
-use crate::reads::OpenReads;
+use crate::opens::{OpenChange, RowRead};
+use crate::reads::{OpenReads, OpenRows};
 use field_types::lists::ListOf;
 use field_types::names::Name;
 use file_cursor::places::Hit;
@@ -37,13 +36,14 @@ pub struct Open {
     commit: bool,
     path: Option<u64>,
     position: OpenPosition,
+    /// How it reads the rows of a join file.
+    rows: Option<OpenRows>,
     current: Option<u32>,
     last_read: Option<u32>,
 }
 
 impl Model for Open {
-    ghost use Rattle.file_model.specs.Positions.{Start};
-    ghost use Rattle.job_table.specs.Opens.{KeptOpen, IsPositionOf};
+    ghost use Rattle.job_table.specs.Opens.{KeptOpen, IsPositionOf, rows_in, join_by};
 
     ghost Value = { KeptOpen };
 
@@ -58,12 +58,12 @@ impl Model for Open {
         access_path = o.access_path;
         commit = o.commit;
         position = o.position.position;
-        rows = Start;
+        rows = rows_in o.rows;
         current = o.current;
         last_read = o.last_read;
         boundary = o.position.boundary;
       };
-      order = record { number = o.number; path = o.path; formats = o.position.formats };
+      order = record { number = o.number; path = o.path; formats = o.position.formats; join = join_by o.rows };
     } };
 
     ghost invariant = { λ o. IsPositionOf o.commit o.position };
@@ -88,6 +88,7 @@ impl Open {
             commit: args.commit,
             path: reads.path,
             position: reads.position,
+            rows: reads.rows,
             current: None,
             last_read: None,
         }
@@ -107,12 +108,20 @@ impl Open {
         self.file
     }
 
-    /// The numbers of its members. It reads no rows of a join.
+    /// The numbers of its members. Where it is of no join file, it stands at the start of no rows.
     pub fn members(&self) -> &[u32]
         ensures members { result.now ≡ self.now.state.members }
-        ensures rows { self.now.state.rows ≡ Start }
+        ensures rows { self.now.order.join ≡ None → self.now.state.rows ≡ Start }
     {
         self.members.as_slice()
+    }
+
+    /// How it reads the rows of a join file, and where it stands among them; none of any other file, where it stands at the start.
+    pub fn rows(&self) -> Option<&OpenRows>
+        ensures position { rows_in (option_copied result) ≡ self.now.state.rows }
+        ensures order { join_by (option_copied result) ≡ self.now.order.join }
+    {
+        self.rows.as_ref()
     }
 
     /// The number of the member of the record that was read last, before any read the first.
@@ -211,6 +220,7 @@ impl Open {
         match change {
             OpenChange::Positioned(number, side, at) => self.set_position(*number, *side, *at),
             OpenChange::HasRead(number, call, hit) => self.note_read(*number, *call, hit),
+            OpenChange::HasReadRow(number, call, read) => self.note_row(*number, *call, *read),
             OpenChange::WithoutCurrent(number) => self.give_up(*number),
             OpenChange::WithoutRecord(member, rrn) => self.give_up_record(*member, *rrn),
             OpenChange::Committed => self.commit_reads(),
@@ -219,11 +229,14 @@ impl Open {
     }
 
     fn set_position(&mut self, number: u32, side: Side, at: StandAt<'_>)
-        requires { self.old.order.number ≡ number → IsStandAt self.old.order.formats at }
+        requires { self.old.order.number ≡ number → CanStand self.old.order.join self.old.order.formats at }
         ensures { self.new ≡ open_after (OpenChange.Positioned number side at.entry) self.old }
     {
         if self.number == number {
-            self.position.stand(side, at);
+            match &mut self.rows {
+                None => self.position.stand(side, at),
+                Some(rows) => rows.position.stand(side, at),
+            }
             self.current = None;
             self.last_read = None;
         }
@@ -239,6 +252,20 @@ impl Open {
             self.position.settle(hit);
             self.current = current_after(call, hit.rrn);
             self.last_read = Some(hit.rrn);
+        }
+    }
+
+    fn note_row(&mut self, number: u32, call: Call, read: RowRead<'_>)
+        requires { self.old.order.number ≡ number → IsRowRead self.old.order.join read }
+        ensures { self.new ≡ open_after (OpenChange.HasReadRow number call read.entry) self.old }
+    {
+        if self.number == number {
+            settle_row(&mut self.rows, read);
+            let entry = read.row.primary;
+            self.member = member_at(self.members.as_slice(), entry.format, self.member);
+            self.format = entry.format;
+            self.current = current_after(call, entry.rrn);
+            self.last_read = Some(entry.rrn);
         }
     }
 
@@ -369,6 +396,18 @@ fn member_at(members: &[u32], format: u16, other: u32) -> u32
     ensures { result ≡ unwrap_or (slice_get members.now format) other }
 {
     members.get(usize::from(format)).copied().unwrap_or(other)
+}
+
+/// Stands on a row that was read.
+fn settle_row(rows: &mut Option<OpenRows>, read: RowRead<'_>)
+    requires { IsRowRead (join_by rows.old) read }
+    ensures position { rows_in rows.new ≡ On (place_by (join_by rows.old) read.entry) }
+    ensures order { join_by rows.new ≡ join_by rows.old }
+{
+    match rows {
+        None => unreachable!(),
+        Some(rows) => rows.position.settle(read.join, read.row),
+    }
 }
 
 /// The record that is the current one after a read.

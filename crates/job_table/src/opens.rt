@@ -9,17 +9,26 @@ ghost use Rattle.job_table.specs.Opens.{state_in, states_of, is_committed_in, ha
 use crate::open::Open;
 use field_types::names::Name;
 use file_cursor::places::Hit;
+use join_rows::rows::{JoinFile, Row};
 use library_model::limits::MOST_OPENS;
 use lock_table::Call;
 use open_position::position::{Side, StandAt};
 use std::alloc::{AllocError, Global};
 use std::marker::Model;
 
+/// A row of a join file that was read.
+#[derive(Clone, Copy)]
+pub struct RowRead<'a> {
+    pub join: JoinFile<'a>,
+    pub row: &'a Row<'a>,
+}
+
 /// What a call makes of the opens of its job: of the one with a number, of those on a record, or of those under commitment.
 #[derive(Clone, Copy)]
 pub enum OpenChange<'a> {
     Positioned(u32, Side, StandAt<'a>),
     HasRead(u32, Call, Hit<'a>),
+    HasReadRow(u32, Call, RowRead<'a>),
     WithoutCurrent(u32),
     WithoutRecord(u32, u32),
     Committed,

@@ -10,11 +10,10 @@ ghost use Rattle.library_steps.specs.State.{job_at, memory_of};
 ghost use Rattle.library_steps.specs.declared.limits.TheConstants.{LAST_RECEIVER, LAST_SEQUENCE};
 ghost use Rattle.library_parts.specs.Answers.{Answers, Gives};
 
-use draft_list::{Author, may_deposit};
 use entry_codec::{Draft, EntryKind};
 use library_model::replies::{LimitKind, Missing, Reply};
 use library_model::requests::DeleteReceiver;
-use library_parts::{Contents, Stop};
+use library_parts::{Author, Contents, Stop, may_deposit};
 use library_steps::limits::LAST_RECEIVER;
 use std::alloc::AllocError;
 

@@ -30,12 +30,13 @@ use Rattle.deposited_entries.specs.Deposits.{AreShort, switches}
 use Rattle.forced_calls.proofs.ForcedLemmas.{asked}
 use Rattle.joint_state.specs.Sound.{Does, IsSound, after}
 use Rattle.sound_histories.proofs.HistoryLemmas.{AnswersStaySound}
-use Rattle.library_core.specs.Journaled.{IsBookOf, IsJournaled}
+use Rattle.kept_library.specs.Journaled.{IsBookOf, IsJournaled}
 use Rattle.library_core.specs.Laws.{DepositsStay, EntriesMayWait, HasPlaces, PlacesLast}
+use Rattle.kept_library.proofs.JournaledLemmas.{counted}
 use Rattle.library_core.specs.Puts.{HasAnswered, HasPut, HasTaken, answer_given, places_taken}
-use Rattle.library_core.specs.Stands.{whole_from}
+use Rattle.kept_library.specs.Stands.{whole_from}
 use Rattle.library_core.proofs.ChangeLaws.{Keeps, change-keeps, gives_up-none}
-use Rattle.library_core.proofs.JournalLemmas.{behind-book, counted, more-book}
+use Rattle.library_core.proofs.JournalLemmas.{behind-book, more-book}
 use Rattle.library_core.proofs.OutcomeLemmas.{IsPlain, after-entries, behind-is, done-answered, fault-answered, no_memory-answered, refused-answered, still-of, stopped-put}
 
 pub ok-is : {A E P : Type 0} (r : Result A E) → IsOk r → OnOk r P → P
@@ -157,6 +158,7 @@ module _ (tells : Type 0) (old : Disk) (before roomy : BookState) (s : State) (s
           least = λ alive. done-least fine;
           whole = λ alive. done-whole fine;
           receiver = taken.receiver ∙ more.receiver;
+          roots = taken.roots;
           faults = taken.faults;
           cause = λ failed. absurd (false≢true failed);
         }
@@ -169,6 +171,7 @@ module _ (tells : Type 0) (old : Disk) (before roomy : BookState) (s : State) (s
           least = λ alive. absurd (false≢true (sym alive));
           whole = λ alive. absurd (false≢true (sym alive));
           receiver = taken.receiver ∙ more.receiver;
+          roots = taken.roots;
           faults = taken.faults;
           cause = λ failed. taken.cause bad;
         }

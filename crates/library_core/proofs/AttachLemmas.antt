@@ -11,6 +11,7 @@ use Rattle.entry_codec.specs.declared.kinds.EntryKind.TheVariants.{NextReceiver,
 use Rattle.entry_codec.specs.Drafts.{numbered}
 use Rattle.entry_codec.specs.Spelling.{HasSpelling}
 use Rattle.receiver_chain.specs.Chain.{attached_of}
+use Rattle.receiver_chain.specs.Others.{LeavesRoots}
 use Rattle.receiver_chain.specs.declared.numbers.TheConstants.{MAX_RECEIVER}
 use Rattle.journal_book.specs.Book.{BookState, HasMoreRoom, Holds, IsHeld, last_of, next_of}
 use Rattle.journal_book.specs.Kept.{IsForcedOrFrom}
@@ -34,11 +35,12 @@ use Rattle.library_parts.specs.declared.stop.Stop.{Stop}
 use Rattle.library_parts.specs.declared.stop.Stop.TheVariants as stop
 use Rattle.joint_state.specs.Sound.{Does, IsSound, after}
 use Rattle.sound_histories.proofs.HistoryLemmas.{AnswersStaySound}
-use Rattle.library_core.specs.Journaled.{IsBookOf, IsJournaled}
+use Rattle.kept_library.specs.Journaled.{IsBookOf, IsJournaled}
 use Rattle.library_core.specs.Laws.{DepositsStay, EntriesAreSpelled, HasPlaces, PlacesLast}
+use Rattle.kept_library.proofs.JournaledLemmas.{counted}
 use Rattle.library_core.specs.Puts.{HasAnswered, HasPut}
-use Rattle.library_core.specs.Stands.{whole_from}
-use Rattle.library_core.proofs.JournalLemmas.{counted, more-book}
+use Rattle.kept_library.specs.Stands.{whole_from}
+use Rattle.library_core.proofs.JournalLemmas.{more-book}
 use Rattle.library_core.proofs.OutcomeLemmas.{IsPlain, after-entries, behind-is, done-answered, no_memory-answered, ok-same, refused-answered, still-of, stopped-put, untouched-answered}
 
 does-plain : {A : Type 0} (effect : A → Change) (plan : Result A Reply) (m : Memory) (c : Change) → does effect plan ≡ Ok c → ((a : A) → IsPlain m (effect a)) → IsPlain m c
@@ -78,6 +80,7 @@ room-put tells old new before roomy after s t r behind failed more put = record 
     | inr all ↦ inr all
   ];
   receiver = put.receiver ∙ more.receiver;
+  roots = put.roots;
   faults = put.faults;
   cause = put.cause;
 }
@@ -162,7 +165,7 @@ module _ (tells : Type 0) (old : Disk) (before roomy : BookState) (s : State) (s
     module _ (new : Disk) (later : BookState)
         (exactly : tells → (entries : List Entry) → Holds roomy entries old → Leaves old new (IsForcedOrFrom roomy.chain.first roomy.forced (length entries)
         (entries ++ tied_by ending beginning (next_of roomy))))
-        (first : later.first ≡ roomy.first) (receiver : later.chain.first ≡ roomy.chain.first) (no_longer : length later.buffered ≤ length roomy.buffered) (faults : old.faults ≤ new.faults) where
+        (first : later.first ≡ roomy.first) (receiver : later.chain.first ≡ roomy.chain.first) (no_longer : length later.buffered ≤ length roomy.buffered) (faults : old.faults ≤ new.faults) (roots : LeavesRoots old new) where
       -- whatever came of it
       tied-moments : tells → Leaves old new (IsForcedOrFrom before.chain.first before.forced (whole_from ChangeJournal s.entries Behind) Behind)
       tied-moments told =
@@ -180,6 +183,7 @@ module _ (tells : Type 0) (old : Disk) (before roomy : BookState) (s : State) (s
         least = λ alive. absurd (false≢true (sym alive));
         whole = λ alive. absurd (false≢true (sym alive));
         receiver = receiver ∙ more.receiver;
+        roots = roots;
         faults = faults;
         cause = λ failed. rose;
       }
@@ -234,6 +238,7 @@ module _ (tells : Type 0) (old : Disk) (before roomy : BookState) (s : State) (s
             least = λ alive. short-least;
             whole = λ alive. short-whole;
             receiver = receiver ∙ more.receiver;
+            roots = roots;
             faults = faults;
             cause = λ failed. absurd (false≢true failed);
           }
@@ -280,6 +285,7 @@ module _ (tells : Type 0) (old : Disk) (before roomy : BookState) (s : State) (s
             least = λ alive. tied-least;
             whole = λ alive. inr tied-whole;
             receiver = receiver ∙ more.receiver;
+            roots = roots;
             faults = faults;
             cause = λ failed. absurd (false≢true failed);
           }

@@ -6,8 +6,8 @@ use Rattle.library_steps.specs.State.{State, job_at, begun, empty_library}
 use Rattle.library_steps.specs.History.{is_running}
 use Rattle.joint_state.specs.Sound.{IsSound}
 use Rattle.library_core.specs.Running.{runs_after}
-use Rattle.library_core.specs.Parts.{LibraryOver}
-use Rattle.library_core.specs.Stands.{IsReady}
+use Rattle.kept_library.specs.Parts.{LibraryOver}
+use Rattle.kept_library.specs.Stands.{IsReady}
 use Rattle.library_core.proofs.RunLemmas.{runs-on}
 
 -- a job that may make a call may make one after a call that ends no job

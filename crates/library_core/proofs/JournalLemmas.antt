@@ -13,7 +13,7 @@ use Rattle.journal_book.specs.Kept.{IsForcedOrFrom, SpellEntries}
 use Rattle.journal_book.proofs.Deposits.{more_holds}
 use Rattle.journal_book.proofs.Forcing.{all_counted, forced_left}
 use Rattle.library_steps.specs.State.{State, begun}
-use Rattle.library_core.specs.Journaled.{IsBookOf, IsJournaled}
+use Rattle.kept_library.specs.Journaled.{IsBookOf, IsJournaled}
 use Rattle.library_core.specs.Laws.{DepositsBegin, IsBehind, PlacesBegin}
 
 pub more-none : (book : BookState) → HasMoreRoom book book
@@ -35,18 +35,10 @@ more-none book = record {
 
 -- ---- what the book says
 
-pub counted : (book : BookState) (s : State) → IsBookOf book s → book.forced + book.waiting ≡ length s.entries
-counted book s of = omega (arith, of.first, of.next)
-
 pub behind-book : (book : BookState) (s : State) → IsBookOf book s → IsBehind book s
 behind-book book s of = record { next = of.next; little = of.little }
 
--- a stop leaves exactly the entries that were forced
-pub journal-left : (tells : Type 0) (disk : Disk) (book : BookState) (s : State) → IsJournaled tells disk book s → tells → (areas : Areas) → May disk areas
-    → SpellEntries book.chain.first (take book.forced s.entries) areas
-journal-left tells disk book s is told areas may = forced_left book s.entries disk (is.holds told) areas may
-
--- also of a journal that goes on behind these entries
+-- a stop leaves the entries that were forced, also of a journal that goes on behind these entries
 pub moment-still : (book : BookState) (entries more behind : List Entry) (whole : ℕ) (disk : Disk) → Holds book entries disk → behind ≡ entries ++ more
     → Leaves disk disk (IsForcedOrFrom book.chain.first book.forced whole behind)
 moment-still book entries more behind whole disk holds is =

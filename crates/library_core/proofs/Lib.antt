@@ -5,7 +5,6 @@ pub mod FileSteps
 pub mod RecordSteps
 pub mod JournalSteps
 pub mod StandLemmas
-pub mod AnsweredLemmas
 pub mod StepLemmas
 pub mod CallLemmas
 pub mod CallerLemmas

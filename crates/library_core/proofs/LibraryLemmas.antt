@@ -1,18 +1,20 @@
 -- What a call says of the library, from what it made of the library's parts.
-use Rattle.std.proofs.Common.{◌≡◌, ◌≢◌, ◌+◌, Bool, true, false, List, length, take, refl, subst}
+use Rattle.std.proofs.Common.{◌≡◌, ◌≢◌, ◌+◌, Bool, true, false, List, length, take, refl, sym, subst}
 use Rattle.store_model.specs.Disk.{Areas, Disk, May}
+use Rattle.path_set.specs.KeptPaths.{NumberedPaths}
+use Rattle.journal_book.specs.Book.{BookState}
 use Rattle.journal_book.specs.Kept.{SpellEntries}
 use Rattle.library_model.specs.declared.calls.Call.{Call}
 use Rattle.library_model.specs.declared.replies.Reply.TheVariants.{StoreFault}
 use Rattle.library_model.specs.declared.sources.NamedSource.{NamedSource}
 use Rattle.library_steps.specs.State.{State}
 use Rattle.library_steps.specs.History.{Standing, Failed}
-use Rattle.library_core.specs.Fronts.{entries_behind}
-use Rattle.library_core.specs.Journaled.{IsJournaled}
-use Rattle.library_core.specs.Parts.{LibraryOver}
+use Rattle.journal_fronts.specs.Fronts.{entries_behind}
+use Rattle.kept_library.specs.Journaled.{IsJournaled}
+use Rattle.kept_library.specs.Parts.{LibraryOver}
 use Rattle.library_core.specs.Puts.{HasAnswered, HasPut}
-use Rattle.library_core.specs.Stands.{Goes, Stands}
-use Rattle.library_core.proofs.JournalLemmas.{counted, journal-left}
+use Rattle.kept_library.specs.Stands.{Goes, Stands}
+use Rattle.kept_library.proofs.JournaledLemmas.{counted, journal-left}
 
 -- what became of the journal and of the state
 pub record IsCalled {S : Type 0} (tells : Type 0) (disk : S → Disk) (sources : List NamedSource) (old new : LibraryOver S) (call : Call) : Type 0 where
@@ -24,6 +26,12 @@ pub called-of : {S : Type 0} (tells : Type 0) (disk : S → Disk) (sources : Lis
     → HasAnswered sources inside.state new.state new.book call new.failed → IsCalled tells disk sources old new call
 called-of {S = S} tells disk sources inside old new call seen put answered =
     subst (λ (l : LibraryOver S). IsCalled tells disk sources l new call) seen (record { put = put; answered = answered })
+
+-- a library's parts are all that it is
+pub same-library : {S : Type 0} (l : LibraryOver S) (store : S) (book : BookState) (state : State) (paths : NumberedPaths) → store ≡ l.store → book ≡ l.book → state ≡ l.state → paths ≡ l.paths
+    → l.failed ≡ false → ◌≡◌ {A = LibraryOver S} (record { store = store; book = book; state = state; paths = paths; failed = false }) l
+same-library l store book state paths of_store of_book of_state of_paths alive =
+    λ i. record { store = of_store i; book = of_book i; state = of_state i; paths = of_paths i; failed = sym alive i }
 
 -- a library that hasn't failed has its journal
 pub library-left : {S : Type 0} (tells : Type 0) (disk : S → Disk) (l : LibraryOver S) → IsJournaled tells (disk l.store) l.book l.state → tells → (areas : Areas) → May (disk l.store) areas

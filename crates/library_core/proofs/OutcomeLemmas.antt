@@ -4,6 +4,7 @@ use Rattle.std.specs.Prelude.{IsErrOf}
 use Rattle.std.proofs.lemmas.Bool.{false≢true}
 use Rattle.store_model.specs.Disk.{Disk, Leaves}
 use Rattle.entry_codec.specs.declared.entries.Entry.{Entry}
+use Rattle.receiver_chain.proofs.Others.{roots_here}
 use Rattle.journal_book.specs.Book.{BookState, HasMoreRoom}
 use Rattle.journal_book.specs.Kept.{IsForcedOrFrom}
 use Rattle.journal_book.proofs.Forcing.{none_exactly}
@@ -23,11 +24,11 @@ use Rattle.library_parts.specs.declared.stop.Stop.{Stop}
 use Rattle.library_parts.specs.declared.stop.Stop.TheVariants as stop
 use Rattle.joint_state.specs.Sound.{IsSound, after}
 use Rattle.sound_histories.proofs.HistoryLemmas.{AnswersStaySound}
-use Rattle.library_core.specs.Fronts.{IsAcknowledged}
-use Rattle.library_core.specs.Journaled.{IsJournaled}
+use Rattle.journal_fronts.specs.Fronts.{IsAcknowledged}
+use Rattle.kept_library.specs.Journaled.{IsJournaled}
 use Rattle.library_core.specs.Laws.{is_fault}
 use Rattle.library_core.specs.Puts.{HasAnswered, HasPut}
-use Rattle.library_core.specs.Stands.{whole_from}
+use Rattle.kept_library.specs.Stands.{whole_from}
 use Rattle.library_core.proofs.CallLemmas.{may-answer, runs-answered, sound-answered}
 use Rattle.library_core.proofs.JournalLemmas.{moment-still, more-journaled}
 use Rattle.library_core.proofs.RefusalLaws.{refused-told}
@@ -111,6 +112,7 @@ module _ (tells : Type 0) (old : Disk) (before roomy : BookState) (s : State) (s
     least = λ alive. omega (arith, more.forced);
     whole = λ alive. inl more.forced;
     receiver = more.receiver;
+    roots = roots_here old;
     faults = omega arith;
     cause = λ failed. absurd (false≢true failed);
   }

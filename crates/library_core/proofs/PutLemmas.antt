@@ -9,6 +9,8 @@ use Rattle.store_model.specs.Faults.{Rose}
 use Rattle.entry_codec.specs.declared.entries.Entry.{Entry}
 use Rattle.gated_log.specs.declared.fault.StoreFault.{StoreFault}
 use Rattle.receiver_chain.specs.Chain.{attached_of}
+use Rattle.receiver_chain.specs.Others.{LeavesRoots}
+use Rattle.receiver_chain.proofs.Others.{roots_here}
 use Rattle.journal_book.specs.Book.{BookState, Holds, next_of}
 use Rattle.journal_book.specs.Kept.{IsForcedOrFrom}
 use Rattle.journal_book.proofs.Forcing.{none_exactly}
@@ -56,9 +58,9 @@ pub put-taken : (tells : Type 0) (old new : Disk) (before after : BookState) (re
     → OnOk put (forced ≡ true → after.waiting ≡ 0) → OnOk put ((after.forced ≡ before.forced) ⊎ (after.waiting ≡ 0)) → OnOk put (length after.buffered < MUCH)
     → OnOk put (next_of after ≡ next_of before + length entries)
     → after.first ≡ before.first → after.chain.first ≡ before.chain.first → attached_of after.chain ≡ attached_of before.chain → OnOk put (before.chain.room ≤ after.chain.room + 1)
-    → old.faults ≤ new.faults
+    → LeavesRoots old new → old.faults ≤ new.faults
     → (IsErr put → Rose old.faults new.faults) → HasTaken tells old new before after request entries put
-put-taken tells old new before after request entries forced put are is kept moments acknowledged whole little next first receiver number places faults cause = record {
+put-taken tells old new before after request entries forced put are is kept moments acknowledged whole little next first receiver number places roots faults cause = record {
   kept = kept;
   moments = moments;
   acknowledged = ok-map put (λ asked due. asked (is ∙ due)) acknowledged;
@@ -69,6 +71,7 @@ put-taken tells old new before after request entries forced put are is kept mome
   receiver = receiver;
   number = number;
   places = ok-map put (λ less. subst (λ (n : ℕ). before.chain.room ≤ after.chain.room + n) (sym (one-place request entries are)) less) places;
+  roots = roots;
   faults = faults;
   cause = cause;
 }
@@ -94,6 +97,7 @@ none-by tells disk book request free little = record {
   receiver = refl;
   number = refl;
   places = omega arith;
+  roots = roots_here disk;
   faults = omega arith;
   cause = λ bad. absurd (false≢true bad);
 }

@@ -13,7 +13,7 @@ use Rattle.library_steps.specs.Change.{Change}
 use Rattle.block_places.specs.Dues.{places_due}
 use Rattle.deposited_entries.specs.Deposits.{AreShort, switches}
 use Rattle.joint_state.specs.Sound.{Does, after}
-use Rattle.library_core.specs.Journaled.{MayDeposit}
+use Rattle.kept_library.specs.Journaled.{MayDeposit}
 use Rattle.library_core.specs.Puts.{places_taken}
 
 -- the replies that say of the library's own means, and of no state

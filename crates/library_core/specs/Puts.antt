@@ -5,6 +5,7 @@ use Rattle.store_model.specs.Faults.{Rose}
 use Rattle.entry_codec.specs.declared.entries.Entry.{Entry}
 use Rattle.gated_log.specs.declared.fault.StoreFault.{StoreFault}
 use Rattle.receiver_chain.specs.Chain.{attached_of}
+use Rattle.receiver_chain.specs.Others.{LeavesRoots}
 use Rattle.journal_book.specs.Book.{BookState, Holds, next_of}
 use Rattle.journal_book.specs.Kept.{IsForcedOrFrom}
 use Rattle.kept_journal.specs.declared.journal.TheConstants.{MUCH}
@@ -21,10 +22,10 @@ use Rattle.library_parts.specs.declared.stop.Stop.{Stop}
 use Rattle.block_places.specs.Dues.{has_entries}
 use Rattle.forced_calls.specs.Forced.{is_forced}
 use Rattle.joint_state.specs.Sound.{IsSound}
-use Rattle.library_core.specs.Fronts.{IsAcknowledged}
-use Rattle.library_core.specs.Journaled.{IsJournaled}
+use Rattle.journal_fronts.specs.Fronts.{IsAcknowledged}
+use Rattle.kept_library.specs.Journaled.{IsJournaled}
 use Rattle.library_core.specs.Running.{runs_after}
-use Rattle.library_core.specs.Stands.{whole_from}
+use Rattle.kept_library.specs.Stands.{whole_from}
 
 -- ---- the entries of a call
 
@@ -48,6 +49,7 @@ pub record HasTaken (tells : Type 0) (old new : Disk) (before after : BookState)
   pub receiver : after.chain.first ≡ before.chain.first
   pub number : attached_of after.chain ≡ attached_of before.chain
   pub places : OnOk put (before.chain.room ≤ after.chain.room + places_taken request entries)
+  pub roots : LeavesRoots old new
   pub faults : old.faults ≤ new.faults
   pub cause : IsErr put → Rose old.faults new.faults
 
@@ -68,6 +70,7 @@ pub record HasPut (tells : Type 0) (old new : Disk) (before after : BookState) (
   pub least : failed ≡ false → before.forced ≤ after.forced
   pub whole : failed ≡ false → (after.forced ≡ before.forced) ⊎ (after.forced ≡ length t.entries)
   pub receiver : after.chain.first ≡ before.chain.first
+  pub roots : LeavesRoots old new
   pub faults : old.faults ≤ new.faults
   pub cause : failed ≡ true → Rose old.faults new.faults
 

@@ -3,7 +3,6 @@
 ghost use Rattle.std.specs.Prelude.{◌≡◌, ◌+◌, ◌*◌, ◌≤◌, ◌<◌, true, false, Ok, List, drop, length, IfOk, IsErr, IsOk, IsTrue, OnOk};
 ghost use Rattle.journal_book.specs.Book.{HasMoreRoom, IsHeld};
 ghost use Rattle.kept_journal.specs.Journals.{MayWait};
-ghost use Rattle.answered_sources.specs.Answered.{AreAnswered};
 ghost use Rattle.built_requests.specs.Built.{is_built};
 ghost use Rattle.deposited_entries.specs.Deposits.{AreShort, switches};
 ghost use Rattle.block_places.specs.Dues.{has_entries};
@@ -16,8 +15,8 @@ ghost use Rattle.library_steps.specs.History.{is_running};
 ghost use Rattle.library_steps.specs.Receivers.{attach_plan};
 ghost use Rattle.library_steps.specs.declared.limits.TheConstants.{LAST_RECEIVER, LAST_SEQUENCE};
 ghost use Rattle.library_parts.specs.Answers.{Gives, reply_of};
-ghost use Rattle.library_core.specs.Fronts.{entries_behind};
-ghost use Rattle.library_core.specs.Journaled.{IsJournaled};
+ghost use Rattle.journal_fronts.specs.Fronts.{entries_behind};
+ghost use Rattle.kept_library.specs.Journaled.{IsJournaled};
 ghost use Rattle.library_core.specs.Puts.{HasAnswered, HasPut, HasTaken, answer_given, are_put, places_taken};
 
 use crate::dispatch::perform;
@@ -52,7 +51,6 @@ pub(crate) fn answer<S: Store>(
 ) -> (Reply, bool)
     requires running { IsTrue (is_running (job_at job contents.old.state.jobs)) }
     requires built { IsTrue (is_built request.now) }
-    requires answered { AreAnswered sources.now }
     requires short { AreShort sources.now }
     requires sound { IsSound contents.old.state }
     requires journaled { IsJournaled S.tells (S.disk store.old) journal.old contents.old.state }
@@ -78,7 +76,6 @@ fn answer_other<S: Store>(
 ) -> (Reply, bool)
     requires running { IsTrue (is_running (job_at job contents.old.state.jobs)) }
     requires built { IsTrue (is_built request.now) }
-    requires answered { AreAnswered sources.now }
     requires short { AreShort sources.now }
     requires other { switches request.now ≡ false }
     requires sound { IsSound contents.old.state }

@@ -1,6 +1,5 @@
 //! What a request asks for: each of them of the crate that does it, but for CHGJRN, which `answering.rt` does step by step.
 ghost use Rattle.std.specs.Prelude.{◌≡◌, false, IsTrue, IsErrOf};
-ghost use Rattle.answered_sources.specs.Answered.{AreAnswered};
 ghost use Rattle.built_requests.specs.Built.{is_built};
 ghost use Rattle.deposited_entries.specs.Deposits.{switches};
 ghost use Rattle.library_model.specs.NeedsMemory.{needs_memory};
@@ -41,7 +40,6 @@ pub(crate) fn perform(
     requires running { IsTrue (is_running (job_at job contents.old.state.jobs)) }
     requires built { IsTrue (is_built request.now) }
     requires other { switches request.now ≡ false }
-    requires answered { AreAnswered sources.now }
     requires defaults { HaveDefaults contents.old.state.files }
     requires stand { StandAsMade (changes_in (job_of job (memory_of contents.old.state)).cycle) contents.old.state.members }
     ensures step { Answers contents.old.state contents.new.state result (change sources.now contents.old.state.entries (memory_of contents.old.state) job timestamp request.now) }

@@ -3,24 +3,25 @@
 ghost use Rattle.std.specs.Prelude.{◌≡◌, ◌≢◌, ◌⊎◌, ℕ, true, false, ◌+◌, ◌*◌, ◌<◌, ◌≤◌, ◌∷◌, [], ◌++◌, length, take, IsTrue, IfOk, OnOk, OnErr};
 ghost use Rattle.store_model.specs.Disk.{Areas, May, Leaves};
 ghost use Rattle.store_model.specs.Faults.{Rose};
+ghost use Rattle.receiver_chain.specs.Others.{LeavesRoots};
 ghost use Rattle.journal_book.specs.Book.{HasMoreRoom};
 ghost use Rattle.journal_book.specs.Kept.{IsForcedOrFrom, SpellEntries};
-ghost use Rattle.answered_sources.specs.Answered.{AreAnswered};
 ghost use Rattle.built_requests.specs.Built.{is_built};
 ghost use Rattle.deposited_entries.specs.Deposits.{AreShort};
 ghost use Rattle.joint_state.specs.Sound.{IsSound};
 ghost use Rattle.library_steps.specs.State.{State, job_at, new_job};
 ghost use Rattle.library_steps.specs.History.{is_running};
 ghost use Rattle.library_parts.specs.Indexed.{ArePaths};
-ghost use Rattle.library_core.specs.Fronts.{IsAcknowledged, entries_behind};
-ghost use Rattle.library_core.specs.Journaled.{IsJournaled};
+ghost use Rattle.journal_fronts.specs.Fronts.{IsAcknowledged, entries_behind};
+ghost use Rattle.kept_library.specs.Journaled.{IsJournaled};
 ghost use Rattle.library_core.specs.Running.{runs_after};
-ghost use Rattle.library_core.specs.Stands.{Stands, IsReady, Goes, whole_from};
+ghost use Rattle.kept_library.specs.Stands.{Stands, IsReady, Goes, whole_from};
 
 use crate::answering::{answer, reserve_for};
 use crate::laws::journal_lasts;
 use field_types::names::Name;
 use kept_journal::KeptJournal;
+use kept_library::KeptLibrary;
 use library_model::replies::Reply;
 use library_model::requests::Request;
 use library_model::sources::Sources;
@@ -40,8 +41,8 @@ pub struct Library<S: Store> {
 
 impl<S: Store> Model for Library<S> {
     ghost use Rattle.std.specs.Prelude.{◌≡◌, false};
-    ghost use Rattle.library_core.specs.Journaled.{IsJournaled};
-    ghost use Rattle.library_core.specs.Parts.{LibraryOver};
+    ghost use Rattle.kept_library.specs.Journaled.{IsJournaled};
+    ghost use Rattle.kept_library.specs.Parts.{LibraryOver};
 
     ghost Value = { LibraryOver S };
 
@@ -51,14 +52,11 @@ impl<S: Store> Model for Library<S> {
 }
 
 impl<S: Store> Library<S> {
-    /// A library with this in it, whose journal is this one in the store. The store is not called.
-    pub fn over(store: S, journal: KeptJournal, contents: Contents) -> Library<S>
-        requires { IsJournaled S.tells (S.disk store) journal contents.state }
-        ensures store { result.store ≡ store }
-        ensures book { result.book ≡ journal }
-        ensures stands { Stands result contents.state }
-        ensures left { S.tells → (areas : Areas) → May (S.disk result.store) areas → SpellEntries result.book.chain.first (take result.book.forced result.state.entries) areas }
+    /// The library on which calls are made, from one that was opened. The store is not called.
+    pub fn of(kept: KeptLibrary<S>) -> Library<S>
+        ensures { result ≡ kept }
     {
+        let (store, journal, contents) = kept.into_parts();
         Library {
             store,
             journal,
@@ -145,7 +143,6 @@ pub fn call<S: Store>(
 ) -> Reply
     requires ready { IsReady job library.old }
     requires built { IsTrue (is_built request.now) }
-    requires answered { AreAnswered sources.now }
     requires short { AreShort sources.now }
     ensures goes { (s : State) → Stands library.old s → Goes sources.now library.new s (record { job = job; timestamp = timestamp; request = request.now; reply = result }) }
     ensures running { (other : ℕ) → is_running (job_at other library.new.state.jobs) ≡ runs_after job request.now library.old.state.jobs other }
@@ -165,6 +162,8 @@ pub fn call<S: Store>(
     ensures whole { library.new.failed ≡ false → (library.new.book.forced ≡ library.old.book.forced) ⊎ (library.new.book.forced ≡ length library.new.state.entries) }
     ensures all { library.new.failed ≡ false → library.new.book.forced + library.new.book.waiting ≡ length library.new.state.entries }
     ensures receiver { library.new.book.chain.first ≡ library.old.book.chain.first }
+    // Roots and saved states are left alone.
+    ensures roots { LeavesRoots (S.disk library.old.store) (S.disk library.new.store) }
 {
     let (reply, failed) = answer(
         &mut library.contents,

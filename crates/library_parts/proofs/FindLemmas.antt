@@ -1,5 +1,5 @@
 -- What is found by names is there.
-use Rattle.std.proofs.Common.{◌≡◌, ℕ, zero, suc, ◌-◌, true, map, List, [], ◌∷◌, Option, Some, None, IsSome, Result, Ok, Err, slice_get, subst, refl, sym, ◌∙◌, ap, arith, ◌<◌, length, unwrap_or}
+use Rattle.std.proofs.Common.{◌≡◌, ℕ, zero, suc, ◌-◌, true, map, List, [], ◌∷◌, Option, Some, None, IsSome, Result, Ok, Err, slice_get, subst, refl, sym, ◌∙◌, ap, arith, ◌<◌, ◌≤◌, length, unwrap_or}
 use Rattle.lawful_states.proofs.NameLemmas.{some-equal}
 use Rattle.logical_model.specs.Formats.{format_names}
 use Rattle.dds_logical.specs.declared.views.View.{View}
@@ -27,10 +27,12 @@ use Rattle.library_parts.specs.declared.stop.Stop.{Stop}
 use Rattle.library_parts.specs.declared.stop.Stop.TheVariants.{NoMemory, Refused}
 use Rattle.library_parts.specs.Finds.{FindsOpen, IsBaseOf, OpensMembers, ReadsMember, OpensBy as MayOpenBy}
 use Rattle.lawful_states.specs.Members.{HasMember}
-use Rattle.library_parts.specs.Indexed.{AreViews, IsUnjoined, IsViewBeside}
+use Rattle.library_parts.specs.Indexed.{AreViews, IsViewBeside}
 use Rattle.library_parts.specs.Keyed.{AllAreKeyed}
 use Rattle.lawful_states.specs.Lawful.{IsBased, OpenHolds, OpensBy, OpensFile, StandsOver, IsLibrary, IsOverBases}
 use Rattle.lawful_states.proofs.FindLemmas.{named-each, physical-opened, has-base}
+use Rattle.dds_logical.specs.declared.join_views.JoinView.{JoinView}
+use Rattle.dds_logical.specs.declared.join_views.JoinedFile.{JoinedFile}
 
 -- ---- a file of this kind
 
@@ -132,19 +134,30 @@ module _ (s : State) (opened : OpenState) (file : FileState) (lawful : IsLibrary
       reads-base name.0 (subst (λ (f : FileSpec). IsBaseOf f opened.file opened.format name.0) (sym is) (view.0, view.1, sym view.2)) name.2
       (each-there (λ (n : List ℕ). IsSome (physical_among n s.files)) names opened.format name.0 stands.bases name.1)
 
-  pub reads-member : IsUnjoined file.spec → ReadsMember s file opened
-  reads-member unjoined = by file.spec refl unjoined (subst (OpensFile s.files opened) here holds)
+  -- of a file of a join
+  reads-joined : (view : JoinView) → file.spec ≡ LogicalFile (Join view) → IsOverBases s.files (Join view) opened → ReadsMember s file opened
+  reads-joined view is own =
+      let names : List (List ℕ) = base_names (Join view) in
+      let at : slice_get (map (λ (name : List ℕ). (bases_in s.files name).member) names) opened.format ≡ Some opened.member =
+      ap (λ (ms : List ℕ). slice_get ms opened.format) (sym own.all) ∙ own.read in
+      let name = at-mapped (λ (name : List ℕ). (bases_in s.files name).member) names opened.format opened.member at in
+      let stands : StandsOver s.files file.members (Join view) = subst (IsBased s.files opened.file file.members) is (lawful.bases opened.file file here) in
+      reads-base name.0 (subst (λ (f : FileSpec). IsBaseOf f opened.file opened.format name.0) (sym is) name.1) name.2
+      (each-there (λ (n : List ℕ). IsSome (physical_among n s.files)) names opened.format name.0 stands.bases name.1)
+
+  pub reads-member : ReadsMember s file opened
+  reads-member = by file.spec refl (subst (OpensFile s.files opened) here holds)
     where
-      by : (spec : FileSpec) → file.spec ≡ spec → IsUnjoined spec → OpensBy s.files opened file.members spec → ReadsMember s file opened
-      by (PhysicalFile spec) is so own =
+      by : (spec : FileSpec) → file.spec ≡ spec → OpensBy s.files opened file.members spec → ReadsMember s file opened
+      by (PhysicalFile spec) is own =
           reads-own (subst IsPhysical (sym is) tt) (subst (λ (f : FileSpec). IsBaseOf f opened.file opened.format opened.file) (sym is) refl)
-      by (LogicalFile (Simple view)) is so own =
+      by (LogicalFile (Simple view)) is own =
           let stands : StandsOver s.files file.members (Simple view) = subst (IsBased s.files opened.file file.members) is (lawful.bases opened.file file here) in
           let same : (bases_in s.files view.base).member ≡ opened.member =
           at-one (bases_in s.files view.base).member opened.member opened.format (ap (λ (ms : List ℕ). slice_get ms opened.format) (sym own.all) ∙ own.read) in
           reads-base view.base (subst (λ (f : FileSpec). IsBaseOf f opened.file opened.format view.base) (sym is) refl) same stands.bases.0
-      by (LogicalFile (Multi views)) is so own = reads-format views is own
-      by (LogicalFile (Join view)) is so own = absurd so
+      by (LogicalFile (Multi views)) is own = reads-format views is own
+      by (LogicalFile (Join view)) is own = reads-joined view is own
 
 -- ---- at another format
 
@@ -176,43 +189,43 @@ OpenHolds-at files number opened some holds = by (named opened.file files) holds
     by None h = absurd h
     by (Some file) h = kind file.members file.spec h
 
-pub reads-at : (s : State) (file : FileState) (opened : OpenState) (number : ℕ) → IsLibrary s → AllAreKeyed s.files → IsUnjoined file.spec → IsSome (slice_get opened.members number)
+pub reads-at : (s : State) (file : FileState) (opened : OpenState) (number : ℕ) → IsLibrary s → AllAreKeyed s.files → IsSome (slice_get opened.members number)
     → ReadsMember s file opened → ReadsMember s file (at_format number opened)
-reads-at s file opened number lawful keyed unjoined some reads =
-    reads-member s (at_format number opened) file lawful keyed (OpenHolds-at s.files number opened some reads.holds) reads.there unjoined
+reads-at s file opened number lawful keyed some reads =
+    reads-member s (at_format number opened) file lawful keyed (OpenHolds-at s.files number opened some reads.holds) reads.there
 
 -- an open has a member for each format of its file
-pub members-many : (files : Named FileState) (file : FileState) (opened : OpenState) → named opened.file files ≡ Some file → IsUnjoined file.spec → OpenHolds files opened
-    → length opened.members ≡ length (format_names file.spec)
-members-many files file opened here unjoined holds = by file.members file.spec unjoined (subst (OpensFile files opened) here holds)
+pub members-many : (files : Named FileState) (file : FileState) (opened : OpenState) → named opened.file files ≡ Some file → OpenHolds files opened
+    → length (format_names file.spec) ≤ length opened.members
+members-many files file opened here holds = by file.members file.spec (subst (OpensFile files opened) here holds)
   where
     many : (views : List View) → length (map (λ (name : List ℕ). (bases_in files name).member) (map (λ (view : View). view.base) views)) ≡ length (map (λ (view : View). view.format.name) views)
     many [] = refl
     many (view ∷ views) = ap suc (many views)
 
-    by : (its : Named MemberStatus) (spec : FileSpec) → IsUnjoined spec → OpensBy files opened its spec → length opened.members ≡ length (format_names spec)
-    by its (PhysicalFile spec) so own = ap length own.only
-    by its (LogicalFile (Simple view)) so own = ap length own.all
-    by its (LogicalFile (Multi views)) so own = ap length own.all ∙ many views
-    by its (LogicalFile (Join view)) so own = absurd so
+    no-less : (a b : ℕ) → a ≡ b → b ≤ a
+    no-less a b same = omega (arith, same)
+
+    joined : (files_under : List ℕ) (m : ℕ) → opened.members ≡ m ∷ files_under → 1 ≤ length opened.members
+    joined others m is = let long : length opened.members ≡ suc (length others) = ap length is in omega (arith, long)
+
+    by : (its : Named MemberStatus) (spec : FileSpec) → OpensBy files opened its spec → length (format_names spec) ≤ length opened.members
+    by its (PhysicalFile spec) own = no-less (length opened.members) 1 (ap length own.only)
+    by its (LogicalFile (Simple view)) own = no-less (length opened.members) 1 (ap length own.all)
+    by its (LogicalFile (Multi views)) own = no-less (length opened.members) (length (format_names (LogicalFile (Multi views)))) (ap length own.all ∙ many views)
+    by its (LogicalFile (Join view)) own =
+        joined (map (λ (name : List ℕ). (bases_in files name).member) (map (λ (joined : JoinedFile). joined.file) view.secondaries)) (bases_in files view.primary).member own.all
 
 pub some-below : {X : Type 0} (xs : List X) (place : ℕ) → place < length xs → IsSome (slice_get xs place)
 some-below [] place low = absurd (omega (arith, low))
 some-below (x ∷ xs) zero low = refl
 some-below (x ∷ xs) (suc place) low = some-below xs place (omega (arith, low))
 
--- ---- no file of a library is a join
+-- ---- what is known of a file
 
 -- what holds of each file holds of the one that a name finds
 pub view-of : (files : Named FileState) (name : List ℕ) (file : FileState) → AreViews files → named name files ≡ Some file → IsViewBeside files file.spec
 view-of files name file views here = named-each (λ (f : FileState). IsViewBeside files f.spec) name files file views here
-
-pub unjoined-of : (files : Named FileState) (name : List ℕ) (file : FileState) → AreViews files → named name files ≡ Some file → IsUnjoined file.spec
-unjoined-of files name file views here = by file.spec (view-of files name file views here)
-  where
-    by : (spec : FileSpec) → IsViewBeside files spec → IsUnjoined spec
-    by (PhysicalFile spec) is = tt
-    by (LogicalFile spec) is = is.unjoined
 
 -- ---- a new open, and one that has read
 

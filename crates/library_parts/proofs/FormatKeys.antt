@@ -17,14 +17,16 @@ use Rattle.file_model.specs.FilePaths.{key_parts, physical_path}
 use Rattle.file_model.specs.KeyOrder.{either_part, either_parts, merged_parts}
 use Rattle.access_path.specs.PathBytes.{IsInBytes}
 use Rattle.logical_model.specs.Bases.{Bases, LogicalFile, base_names}
-use Rattle.logical_paths.specs.KeyedViews.{HaveRecords, IsKeyedLogical, IsViewOver}
-use Rattle.logical_paths.specs.Steps.{own_path}
+use Rattle.logical_paths.specs.KeyedViews.{HaveRecords, IsKeyedLogical, IsViewOver, IsKeyedJoin}
+use Rattle.logical_paths.specs.Steps.{own_path, shown_in_join}
 use Rattle.logical_paths.proofs.ViewLemmas.{paths-bytes, same-keys, view-allowed, view-few}
 use Rattle.physical_paths.specs.KeyedFiles.{HasRecordsOf, IsKeyed}
 use Rattle.physical_paths.proofs.PositionLemmas.{parts-allowed, parts-few}
 use Rattle.open_position.specs.OpenStand.{AreFormatKeys}
-use Rattle.library_parts.specs.Indexed.{IsUnjoined, IsView}
+use Rattle.library_parts.specs.Indexed.{IsView}
 use Rattle.library_parts.proofs.OpenLooks.{merged-one}
+use Rattle.dds_logical.specs.declared.join_views.JoinView.{JoinView}
+use Rattle.logical_paths.proofs.KeyLemmas.{parts-length, parts-allowed as joined-allowed}
 
 either-few : (n : ℕ) (ps qs : List KeyPart) → length ps ≤ n → length qs ≤ n → length (either_parts ps qs) ≤ n
 either-few n [] qs few also = also
@@ -58,6 +60,13 @@ no-records : (bases : Bases) (names : List (List ℕ)) → AllByRecursion (λ na
 no-records bases [] = tt
 no-records bases (name ∷ names) = ((λ k d low. absurd (omega (arith, low))), no-records bases names)
 
+-- of a join by the key of its primary file
+pub join-allowed : (bases : Bases) (view : JoinView) → IsKeyedJoin bases view → ArePositions (key_parts 0 view.keys.parts)
+join-allowed bases view keyed = joined-allowed (bases view.primary).fields (shown_in_join view.fields) view.keys.parts keyed.parts
+
+pub join-few : (bases : Bases) (view : JoinView) → IsKeyedJoin bases view → length (key_parts 0 view.keys.parts) ≤ MOST_POSITIONS
+join-few bases view keyed = subst (λ (n : ℕ). n ≤ MOST_POSITIONS) (sym (parts-length view.keys.parts 0)) keyed.few
+
 pub view-keys : (bases : Bases) (spec : LogicalSpec) → IsView bases spec → AreFormatKeys (map (λ (format : PathFormat). format.key) (own_path bases spec).formats)
 view-keys bases (Simple view) its = record {
   few = subst (λ (ps : List KeyPart). length ps ≤ MOST_POSITIONS) (sym (merged-one (key_parts 0 view.keys.parts))) (view-few (bases view.base).fields view its.keyed);
@@ -72,7 +81,11 @@ view-keys bases (Multi views) its = record {
   matching = (recursion_from_All (λ (p : PathSpec). IsInBytes p []) (own_path bases (Multi views) ∷ [])
       (paths-bytes bases (Multi views) [] its.keyed (no-records bases (base_names (Multi views))))).0.match;
 }
-view-keys bases (Join view) its = absurd its.unjoined
+view-keys bases (Join view) its = record {
+  few = subst (λ (ps : List KeyPart). length ps ≤ MOST_POSITIONS) (sym (merged-one (key_parts 0 view.keys.parts))) (join-few bases view its.keyed);
+  allowed = subst ArePositions (sym (merged-one (key_parts 0 view.keys.parts))) (join-allowed bases view its.keyed);
+  matching = λ i j d before within. absurd (let first : j < 1 = within in omega (arith, before, first));
+}
 
 pub physical-keys : (member : ℕ) (spec : PhysicalSpec) → IsKeyed spec → AreFormatKeys (map (λ (format : PathFormat). format.key) (physical_path member spec.format.fields spec.keys).formats)
 physical-keys member spec keyed = record {

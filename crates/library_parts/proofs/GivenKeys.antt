@@ -15,7 +15,7 @@ use Rattle.file_model.specs.Paths.{repeated_in}
 use Rattle.record_fmt.specs.declared.formats.Field.{Field}
 use Rattle.record_fmt.specs.Layout.{record_length}
 use Rattle.logical_model.specs.Bases.{FileSpec, PhysicalFile, LogicalFile}
-use Rattle.logical_model.specs.FilePaths.{is_over, logical_paths, views_path}
+use Rattle.logical_model.specs.FilePaths.{is_over, logical_paths, views_path, primary_path}
 use Rattle.member_slots.specs.declared.slot.Slot.{Slot}
 use Rattle.member_slots.specs.declared.slot.Slot.TheVariants.{Live, Deleted}
 use Rattle.member_slots.specs.Member.{FitsSlot}
@@ -44,7 +44,7 @@ use Rattle.library_parts.specs.declared.stop.Stop.{Stop}
 use Rattle.library_parts.specs.declared.stop.Stop.TheVariants.{NoMemory, Refused}
 use Rattle.library_parts.specs.Answers.{MayAllow}
 use Rattle.library_parts.specs.Given.{given_to, members_given, with_given, AreTold, FitsMember, IsTold, MayGive}
-use Rattle.library_parts.specs.Indexed.{AreViews, HasBytes, IsIndexed, IsUnjoined, IsView, IsViewBeside}
+use Rattle.library_parts.specs.Indexed.{AreViews, HasBytes, IsIndexed, IsView}
 use Rattle.library_parts.specs.Keyed.{AllAreKeyed}
 use Rattle.lawful_states.specs.Lawful.{HoldsValues, IsLibrary}
 use Rattle.lawful_states.specs.Slots.{MayStand}
@@ -52,8 +52,9 @@ use Rattle.library_parts.proofs.FlatLemmas.{each-flat, flat-at, none-behind, som
 use Rattle.library_parts.proofs.GivenLemmas.{given-hold}
 use Rattle.library_parts.proofs.IndexLooks.{bases-have, fields-are, records-of, view-of}
 use Rattle.library_parts.proofs.IndexLaws.{laws}
-use Rattle.lawful_states.proofs.MemberLemmas.{AllByRecursion-get, HasRecords-member_of}
+use Rattle.lawful_states.proofs.MemberLemmas.{HasRecords-member_of}
 use Rattle.library_parts.proofs.RemadeLemmas.{at-next, remade-records}
+use Rattle.library_parts.proofs.JoinedUnique.{join-unique}
 
 -- ---- unique paths, file by file
 
@@ -83,7 +84,7 @@ uniques_from member m files = flat_map (λ entry. uniques_by entry.1.spec m memb
 -- what is known of a file at a place
 abbrev pub TellsAt : (files : Named FileState) → NumberedPaths → (member place : ℕ) → Result (Unit {0}) Stop → Type 0
 TellsAt files paths member place result =
-    (m later : Memory) (entry : List ℕ × FileState) → m.files ≡ files → slice_get files place ≡ Some entry → IsUnjoined entry.1.spec
+    (m later : Memory) (entry : List ℕ × FileState) → m.files ≡ files → slice_get files place ≡ Some entry
     → AllByRecursion (IsTold later.members paths) (uniques_by entry.1.spec m member entry) → MayAllow result (all_apart (uniques_by entry.1.spec m member entry) later)
 
 -- and of all of them
@@ -95,10 +96,6 @@ TellsAll files paths member result =
 pub record AreApartTo (files : Named FileState) (paths : NumberedPaths) (member place : ℕ) : Type 0 where
   pub rest : (m later : Memory) → m.files ≡ files → AreViews files → AreTold member m later.members paths
       → all_apart (unique_paths member m) later ≡ all_apart (uniques_from member m (drop place files)) later
-
-unjoined-of : (files : Named FileState) (spec : FileSpec) → IsViewBeside files spec → IsUnjoined spec
-unjoined-of files (PhysicalFile spec) is = tt
-unjoined-of files (LogicalFile spec) is = is.unjoined
 
 module _ (files : Named FileState) (paths : NumberedPaths) (member : ℕ) where
   pub apart-first : AreApartTo files paths member 0
@@ -115,10 +112,6 @@ module _ (files : Named FileState) (paths : NumberedPaths) (member : ℕ) where
       flat-at (IsTold later.members paths) (λ (e : List ℕ × FileState). uniques_by e.1.spec m member e) files place entry
       (subst (λ (fs : Named FileState). AllByRecursion (IsTold later.members paths) (uniques_from member m fs)) same told) at
 
-  pub unjoined-at : (place : ℕ) (entry : List ℕ × FileState) → AreViews files → slice_get files place ≡ Some entry → IsUnjoined entry.1.spec
-  unjoined-at place entry views at =
-      unjoined-of files entry.1.spec (AllByRecursion-get (λ (e : List ℕ × FileState). IsViewBeside files e.1.spec) files place entry views at)
-
   pub apart-next : (place : ℕ) → place < length files → TellsAt files paths member place (Ok tt) → AreApartTo files paths member place → AreApartTo files paths member (place + 1)
   apart-next place low tells is = record {
     rest = λ m later same views told.
@@ -127,7 +120,7 @@ module _ (files : Named FileState) (paths : NumberedPaths) (member : ℕ) where
         is.rest m later same views told
         ∙ ap (λ (us : List UniquePath). all_apart us later) (split-at place here.0 m here.1)
         ∙ apart-append (uniques_by here.0.1.spec m member here.0) (uniques_from member m (drop (suc place) files)) later
-        (tells m later here.0 same here.1 (unjoined-at place here.0 views here.1) (told-at place here.0 m later same told here.1))
+        (tells m later here.0 same here.1 (told-at place here.0 m later same told here.1))
         ∙ ap (λ (n : ℕ). all_apart (uniques_from member m (drop n files)) later) behind;
   }
 
@@ -138,7 +131,7 @@ module _ (files : Named FileState) (paths : NumberedPaths) (member : ℕ) where
       is.rest m later same views told
       ∙ ap (λ (us : List UniquePath). all_apart us later) (split-at place here.0 m here.1)
       ∙ apart-refused (uniques_by here.0.1.spec m member here.0) (uniques_from member m (drop (suc place) files)) later reply
-      (tells m later here.0 same here.1 (unjoined-at place here.0 views here.1) (told-at place here.0 m later same told here.1))
+      (tells m later here.0 same here.1 (told-at place here.0 m later same told here.1))
 
   pub apart-end : (place : ℕ) → length files ≤ place → AreApartTo files paths member place → TellsAll files paths member (Ok tt)
   apart-end place all is = λ m later same views told.
@@ -250,7 +243,19 @@ module _ (s : State) (number : ℕ) (given : List SlotGiven) (orders : List (Nam
         | false ↦ tt
       ]
   logical-told name file here (Multi views) is its = tt
-  logical-told name file here (Join view) is its = absurd its.unjoined
+  logical-told name file here (Join view) is its =
+      let whole = primary_path (bases_in s.files) view in
+      let among = paths-contain s.files name file whole here
+      (subst (λ (f : FileSpec). Contains (paths_by s.files file.members f) whole) (sym is) (zero, omega arith, refl)) in
+      let in_bytes = recursion_from_All (λ (path : PathSpec). IsInBytes path later) (logical_paths (bases_in s.files) (Join view))
+      (laws.view_bytes (bases_in s.files) (Join view) later its.keyed (bases-have s.files later lawful.bases records-then name file (Join view) here is)) in
+      let told : IsTold later now.paths (record { file = name; path = whole }) = path-told name whole among in_bytes.0 (λ u. (let one : 1 ≤ 1 = omega arith in one)) in
+      subst (λ (ps : List PathSpec). AllByRecursion (IsTold later now.paths) (map (λ (path : PathSpec). record { file = name; path = path }) ps)) (sym (join-unique (bases_in s.files) view number))
+      (elim (view.keys.unique && is_over number whole) as (λ b. AllByRecursion (IsTold later now.paths)
+      (map (λ (path : PathSpec). record { file = name; path = path }) (cond b (whole ∷ []) []))) [
+        | true ↦ (told, tt)
+        | false ↦ tt
+      ])
 
   file-told : (name : List ℕ) (file : FileState) → named name s.files ≡ Some file
       → AllByRecursion (IsTold (members_given number given s.members) now.paths) (uniques_by file.spec (memory_of s) number (name, file))

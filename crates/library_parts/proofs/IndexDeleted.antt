@@ -12,7 +12,7 @@ use Rattle.dds_physical.specs.declared.physical_files.PhysicalSpec.{PhysicalSpec
 use Rattle.dds_logical.specs.declared.views.LogicalSpec.{LogicalSpec}
 use Rattle.file_model.specs.declared.paths.PathSpec.{PathSpec}
 use Rattle.file_model.specs.FilePaths.{physical_path}
-use Rattle.logical_model.specs.Bases.{FileSpec, PhysicalFile, LogicalFile, base_members}
+use Rattle.logical_model.specs.Bases.{FileSpec, PhysicalFile, LogicalFile, base_members, Bases}
 use Rattle.logical_model.specs.Formats.{has_key}
 use Rattle.logical_laws.proofs.ListLemmas.{each-append, each-contained, each-weaker}
 use Rattle.logical_paths.specs.Steps.{own_path}
@@ -40,27 +40,44 @@ use Rattle.library_steps.specs.Opens.{first_of}
 use Rattle.library_steps.specs.Records.{is_file_path}
 use Rattle.library_steps.specs.State.{State, FileState, MemberStatus, OpenState, JobState, memory_of}
 use Rattle.library_steps.specs.Uses.{has_changed, has_open_of, user_of_any, user_of_logical, uses}
-use Rattle.library_parts.specs.Indexed.{AreViews, IsIndexed, IsIndexedFor, IsViewBeside, path_by, path_read}
+use Rattle.library_parts.specs.Indexed.{AreViews, IsIndexed, IsIndexedFor, IsViewBeside, path_by, path_read, rows_paths}
 use Rattle.lawful_states.specs.Lawful.{IsBased, IsLibrary, OpenHolds, OpensBy, OpensFile, OpensHold}
-use Rattle.library_parts.specs.PathChanges.{IsPathOf, IsPathOfNamed, detached_from, without_path_over, without_paths}
+use Rattle.library_parts.specs.PathChanges.{detached_from, without_path_over, without_paths, AreNumbers, ArePathsOf, ArePathsOfNamed, HasNoChange, detached_each}
 use Rattle.library_parts.specs.Reads.{IsNumberOf}
 use Rattle.lawful_states.proofs.BackLemmas.{neither}
 use Rattle.lawful_states.proofs.BaseLemmas.{Keeps-self}
-use Rattle.library_parts.proofs.IndexPaths.{FileStays, any-both, changes-each, over-other, over-own, own-same, physical-of}
-use Rattle.library_parts.proofs.IndexShared.{IsNumbered, IsUnchanged, OpenIsAmong, OpensAreAmong, OpensStay, clash, IsIndexed-detached, IsIndexed-files, IsIndexed-members, IsIndexed-same, files-stay, opens-stay}
+use Rattle.library_parts.proofs.IndexPaths.{FileStays, any-both, changes-each, over-other, over-own, own-same, physical-of, tail_of}
+use Rattle.library_parts.proofs.IndexShared.{IsNumbered, IsUnchanged, OpenIsAmong, OpensAreAmong, OpensStay, clash, IsIndexed-detached, IsIndexed-files, IsIndexed-members, IsIndexed-same, files-stay, opens-stay, ReadsAmong}
 use Rattle.library_parts.proofs.IndexStatus.{turned-bases, views-alike}
-use Rattle.library_parts.proofs.IndexFiles.{own-members, single-path, stand-based, unchanged-path}
+use Rattle.library_parts.proofs.IndexFiles.{stand-based, own-first, paths-unchanged}
 use Rattle.library_parts.proofs.IndexGone.{IsFree, bytes-left, changes-free, has-first, has-later, is-free, jobs-free, over-left}
 use Rattle.library_parts.proofs.IndexDetached.{first-found, found_over, none-over}
+use Rattle.dds_logical.specs.declared.views.LogicalSpec.TheVariants.{Simple, Multi, Join}
+use Rattle.dds_logical.specs.declared.join_views.JoinView.{JoinView}
+use Rattle.logical_model.specs.FilePaths.{logical_paths}
+use Rattle.logical_laws.specs.Mapped.{AreSameBases}
+use Rattle.logical_laws.proofs.SameLemmas.{same-paths}
+use Rattle.library_parts.proofs.ManyAttached.{giving-each, opens-more}
 
 -- ---- what some paths contain
 
-contained-right : (spec : PathSpec) (xs ys : List PathSpec) → Contains ys spec → Contains (xs ++ ys) spec
-contained-right spec xs ys there =
-    count-contained spec (xs ++ ys) (let some = contained-count spec ys there in let sum = count-append spec xs ys in omega (arith, some, sum))
-
 contained-first : (spec : PathSpec) (specs : List PathSpec) → Contains (spec ∷ specs) spec
 contained-first spec specs = count-contained spec (spec ∷ specs) (let one = count-own spec spec specs refl in omega (arith, one))
+
+rows-alike : (bases other : Bases) (view : JoinView) → AreSameBases bases other (Join view) → rows_paths bases (LogicalFile (Join view)) ≡ rows_paths other (LogicalFile (Join view))
+rows-alike bases other view same = ap tail_of (same-paths bases other (Join view) same)
+
+each-contained-behind : (front : PathSpec) (some specs : List PathSpec) → AllByRecursion (Contains specs) some → AllByRecursion (Contains (front ∷ specs)) some
+each-contained-behind front [] specs all = tt
+each-contained-behind front (spec ∷ some) specs all = (contained-behind spec front specs all.0, each-contained-behind front some specs all.1)
+  where
+    contained-behind : (spec other : PathSpec) (specs : List PathSpec) → Contains specs spec → Contains (other ∷ specs) spec
+    contained-behind spec other specs there =
+        count-contained spec (other ∷ specs) (let some = contained-count spec specs there in let sum = count-append spec (other ∷ []) specs in omega (arith, some, sum))
+
+all-contained : (specs : List PathSpec) → AllByRecursion (Contains specs) specs
+all-contained [] = tt
+all-contained (spec ∷ specs) = (contained-first spec specs, each-contained-behind spec specs specs (all-contained specs))
 
 some-each : {A : Type 0} (P Q : A → Type 0) → ((a : A) → P a → Q a) → (o : Option A) → IfSome o P → IfSome o Q
 some-each P Q each None is = tt
@@ -69,14 +86,6 @@ some-each P Q each (Some a) is = each a is
 -- the path over a member of a physical file
 abbrev path_at : PhysicalSpec → ℕ → PathSpec
 path_at spec number = physical_path number spec.format.fields spec.keys
-
-among-more : (front specs : List PathSpec) (files : Named FileState) (jobs : List JobState) → OpensAreAmong specs files jobs → OpensAreAmong (front ++ specs) files jobs
-among-more front specs files jobs among =
-    each-weaker (λ (job : JobState). AllByRecursion (OpenIsAmong specs files) job.opens) (λ (job : JobState). AllByRecursion (OpenIsAmong (front ++ specs) files) job.opens)
-    (λ job own. each-weaker (OpenIsAmong specs files) (OpenIsAmong (front ++ specs) files)
-    (λ entry is. some-each (λ (f : FileState). IfSome (path_read (bases_in files) f entry.1) (Contains specs)) (λ (f : FileState). IfSome (path_read (bases_in files) f entry.1) (Contains (front ++ specs)))
-    (λ f its. some-each (Contains specs) (Contains (front ++ specs)) (λ spec there. contained-right spec front specs there) (path_read (bases_in files) f entry.1) its)
-    (named entry.1.file files) is) job.opens own) jobs among
 
 turned-sum : (a b c : ℕ) → a + b ≡ c → c ≡ b + a
 turned-sum a b c is = omega (arith, is)
@@ -157,20 +166,36 @@ module _ (s : State) (name : List ℕ) (file : FileState) (lawful : IsLibrary s)
       by false b keyed = tt
   kind-among opened f found (LogicalFile spec) is own =
       let alike : AreAlike (bases_in others) (bases_in s.files) (LogicalFile spec) = subst (AreAlike (bases_in others) (bases_in s.files)) is (alike-of opened.file f found) in
-      let view : IsViewBeside s.files (LogicalFile spec) = subst (IsViewBeside s.files) is (view-of opened.file f found) in
-      subst (λ (ps : List PathSpec). Contains ps (own_path (bases_in s.files) spec)) (sym (single-path (bases_in others) spec view.unjoined))
-      (subst (λ (p : PathSpec). Contains (own_path (bases_in others) spec ∷ []) p) (own-same (bases_in others) (bases_in s.files) spec alike) (contained-first (own_path (bases_in others) spec) []))
+      subst (λ (ps : List PathSpec). Contains ps (own_path (bases_in s.files) spec)) (sym (own-first (bases_in others) spec))
+      (subst (λ (p : PathSpec). Contains (own_path (bases_in others) spec ∷ rows_paths (bases_in others) (LogicalFile spec)) p) (own-same (bases_in others) (bases_in s.files) spec alike)
+      (contained-first (own_path (bases_in others) spec) (rows_paths (bases_in others) (LogicalFile spec))))
+
+  -- and so are those of its rows
+  rows-among : (opened : OpenState) (f : FileState) → named opened.file s.files ≡ Some f → (spec : FileSpec) → f.spec ≡ spec
+      → AllByRecursion (Contains (paths_by others f.members spec)) (rows_paths (bases_in s.files) spec)
+  rows-among opened f found (PhysicalFile spec) is = tt
+  rows-among opened f found (LogicalFile (Simple view)) is = tt
+  rows-among opened f found (LogicalFile (Multi views)) is = tt
+  rows-among opened f found (LogicalFile (Join view)) is =
+      let alike : AreAlike (bases_in others) (bases_in s.files) (LogicalFile (Join view)) = subst (AreAlike (bases_in others) (bases_in s.files)) is (alike-of opened.file f found) in
+      let rows : List PathSpec = rows_paths (bases_in others) (LogicalFile (Join view)) in
+      subst (AllByRecursion (Contains (logical_paths (bases_in others) (Join view)))) (rows-alike (bases_in others) (bases_in s.files) view alike)
+      (each-contained-behind (own_path (bases_in others) (Join view)) rows rows (all-contained rows))
 
   open-among : (entry : List ℕ × OpenState) → same_name name entry.1.file ≡ false → OpenHolds s.files entry.1 → OpenIsAmong (all_paths others) s.files entry
   open-among entry differ holds = by (named entry.1.file s.files) refl holds
     where
       by : (o : Option FileState) → named entry.1.file s.files ≡ o → OpensFile s.files entry.1 o
-          → IfSome o (λ f. IfSome (path_read (bases_in s.files) f entry.1) (Contains (all_paths others)))
+          → IfSome o (ReadsAmong (all_paths others) (bases_in s.files) entry.1)
       by None found h = tt
-      by (Some f) found h =
-          some-each (Contains (paths_by others f.members f.spec)) (Contains (all_paths others))
-          (λ spec own. paths-contain others entry.1.file f spec (named-without_other name entry.1.file s.files differ ∙ found) own)
-          (path_read (bases_in s.files) f entry.1) (kind-among entry.1 f found f.spec refl h)
+      by (Some f) found h = record {
+        path = some-each (Contains (paths_by others f.members f.spec)) (Contains (all_paths others))
+            (λ spec own. paths-contain others entry.1.file f spec (named-without_other name entry.1.file s.files differ ∙ found) own)
+            (path_read (bases_in s.files) f entry.1) (kind-among entry.1 f found f.spec refl h);
+        rows = each-weaker (Contains (paths_by others f.members f.spec)) (Contains (all_paths others))
+            (λ spec own. paths-contain others entry.1.file f spec (named-without_other name entry.1.file s.files differ ∙ found) own)
+            (rows_paths (bases_in s.files) f.spec) (rows-among entry.1 f found f.spec refl);
+      }
 
   opens-among : (jobs : List JobState) → OpensApart name jobs → AllByRecursion (OpensHold s.files) jobs → OpensAreAmong (all_paths others) s.files jobs
   opens-among [] all hold = tt
@@ -183,9 +208,9 @@ module _ (s : State) (name : List ℕ) (file : FileState) (lawful : IsLibrary s)
 
   module _ (orders : List (Named OpenOrder)) (moves : List (List (List PathMove))) where
     -- its own paths before those of the others
-    own-first : (kept : KeptPaths) → IsIndexed s.files s.members s.jobs orders moves kept
+    own-first-of : (kept : KeptPaths) → IsIndexed s.files s.members s.jobs orders moves kept
         → IsIndexedFor (paths_by s.files file.members file.spec ++ all_paths others) s.files s.members s.jobs orders moves kept
-    own-first kept indexed =
+    own-first-of kept indexed =
         IsIndexed-files (all_paths s.files) s.files s.members s.jobs orders moves (paths_by s.files file.members file.spec ++ all_paths others) s.files kept
         (opens-stay s.files s.files (files-stay s.files) s.jobs) views
         (λ path. turned-sum (count_in path (all_paths others)) (count_in path (paths_by s.files file.members file.spec)) (count_in path (all_paths s.files))
@@ -203,9 +228,6 @@ module _ (s : State) (name : List ℕ) (file : FileState) (lawful : IsLibrary s)
     -- ---- a logical file
 
     module _ (spec : LogicalSpec) (is : file.spec ≡ LogicalFile spec) (unused : user_of_logical name (base_members (bases_in s.files) spec) (memory_of s) ≡ None) where
-      its-view : IsViewBeside s.files (LogicalFile spec)
-      its-view = subst (IsViewBeside s.files) is (view-of name file here)
-
       opens-none : (opens : Named OpenState) → list_any (λ (entry : List ℕ × OpenState). same_name name entry.1.file) opens ≡ false
           → AllByRecursion (λ (entry : List ℕ × OpenState). same_name name entry.1.file ≡ false) opens
       opens-none [] none = tt
@@ -220,37 +242,23 @@ module _ (s : State) (name : List ℕ) (file : FileState) (lawful : IsLibrary s)
           (λ number job none. opens-none job.opens (neither (has_open_of name job) (list_any (λ member. has_changed member job) (base_members (bases_in s.files) spec)) none).0) 1 s.jobs unused
 
       -- or has changed a member that it is over
-      view-unchanged : IsUnchanged (own_path (bases_in s.files) spec) s.jobs
+      view-unchanged : AllByRecursion (HasNoChange s.jobs) (logical_paths (bases_in s.files) spec)
       view-unchanged =
-          unchanged-path (own_path (bases_in s.files) spec) (base_members (bases_in s.files) spec) s.jobs (own-members (bases_in s.files) spec its-view.unjoined)
+          paths-unchanged (bases_in s.files) spec s.jobs
           (jobs-free (λ (job : JobState). list_any (λ member. has_changed member job) (base_members (bases_in s.files) spec) ≡ false)
           (λ number job. has_open_of name job || list_any (λ member. has_changed member job) (base_members (bases_in s.files) spec))
           (λ number job none. (neither (has_open_of name job) (list_any (λ member. has_changed member job) (base_members (bases_in s.files) spec)) none).1) 1 s.jobs unused)
 
-      own-paths : paths_by s.files file.members file.spec ≡ own_path (bases_in s.files) spec ∷ []
-      own-paths = ap (paths_by s.files file.members) is ∙ single-path (bases_in s.files) spec its-view.unjoined
-
-      pub IsIndexed-without_view : (id : Option ℕ) (old new : KeptPaths) → AreShared old.paths → IsNumberOf (own_path (bases_in s.files) spec) id old.paths → new.paths ≡ detached_from id old.paths
-          → ((number : ℕ) → IsSome (item_at number new.paths) → spare_of number new ≡ spare_of number old) → IsIndexed s.files s.members s.jobs orders moves old
+      pub IsIndexed-without_view : (ids : List (Option ℕ)) (old new : KeptPaths) → AreShared old.paths → AreNumbers old.paths (logical_paths (bases_in s.files) spec) ids
+          → new.paths ≡ detached_each ids old.paths → ((number : ℕ) → IsSome (item_at number new.paths) → spare_of number new ≡ spare_of number old) → IsIndexed s.files s.members s.jobs orders moves old
           → IsIndexed (without_file name s.files) s.members s.jobs orders moves new
-      IsIndexed-without_view id old new shared its paths spares indexed = by id its paths
-        where
-          own : PathSpec
-          own = own_path (bases_in s.files) spec
-
-          before : IsIndexedFor (own_path (bases_in s.files) spec ∷ all_paths others) s.files s.members s.jobs orders moves old
-          before = subst (λ (ps : List PathSpec). IsIndexedFor (ps ++ all_paths others) s.files s.members s.jobs orders moves old) own-paths (own-first old indexed)
-
-          by : (o : Option ℕ) → IsNumberOf (own_path (bases_in s.files) spec) o old.paths → new.paths ≡ detached_from o old.paths → IsIndexed (without_file name s.files) s.members s.jobs orders moves new
-          by None none same =
-              let both = any-both (λ (p : Numbered KeptPath). p.item.spec ≢ own) (λ (p : Numbered KeptPath). p.item.spec ≡ own) old.paths none before.paths.there.0 in
-              absurd (both.1 both.2)
-          by (Some number) any same =
-              let found = at-any (IsNumbered number own) old.paths (two-from IsBelow old.paths shared.ascend) any in
-              let at : item_at number old.paths ≡ Some found.path = ap (λ (n : ℕ). item_at n old.paths) (sym found.holds.0) ∙ found.at in
-              others-left s.members new view-opens
-              (IsIndexed-same (all_paths others) s.files s.members s.jobs orders moves (record { paths = detached number old.paths; rooms = old.rooms }) new same spares
-              (IsIndexed-detached (all_paths others) s.files s.members s.jobs orders moves own view-unchanged old shared number found.path at found.holds.1 (opens-among s.jobs view-opens lawful.opens) before))
+      IsIndexed-without_view ids old new shared its same spares indexed =
+          let before : IsIndexedFor (logical_paths (bases_in s.files) spec ++ all_paths others) s.files s.members s.jobs orders moves old =
+          subst (λ (ps : List PathSpec). IsIndexedFor (ps ++ all_paths others) s.files s.members s.jobs orders moves old) (ap (paths_by s.files file.members) is) (own-first-of old indexed) in
+          let given = giving-each (all_paths others) s.files s.members s.jobs orders moves (opens-among s.jobs view-opens lawful.opens) (logical_paths (bases_in s.files) spec) ids old shared its
+          view-unchanged before in
+          others-left s.members new view-opens
+          (IsIndexed-same (all_paths others) s.files s.members s.jobs orders moves (record { paths = detached_each ids old.paths; rooms = old.rooms }) new same spares given.1)
 
     -- ---- a physical file
 
@@ -364,7 +372,7 @@ module _ (s : State) (name : List ℕ) (file : FileState) (lawful : IsLibrary s)
               × IsIndexedFor (all_paths others) s.files s.members s.jobs orders moves (record { paths = without_paths gone ps; rooms = now.rooms })) fewer
               (more (record { paths = detached p.number now.paths; rooms = now.rooms }) (detached-shared p.number p.item now.paths shared at.0)
               (IsIndexed-detached rest s.files s.members s.jobs orders moves (path_at spec number) (its-unchanged number has) now shared p.number p.item at.0 same
-              (among-more (map (λ entry. physical_path entry.1.number spec.format.fields spec.keys) gone) (all_paths others) s.files s.jobs (opens-among s.jobs its-opens lawful.opens)) indexed))
+              (opens-more (map (λ entry. physical_path entry.1.number spec.format.fields spec.keys) gone) (all_paths others) s.files s.jobs (opens-among s.jobs its-opens lawful.opens)) indexed))
 
       -- those left are over none of its members
       not-over : (now : NumberedPaths) → AreShared now → AreKeptFor (all_paths others) s.members now → (number : ℕ) → has_number number file.members ≡ true
@@ -400,7 +408,7 @@ module _ (s : State) (name : List ℕ) (file : FileState) (lawful : IsLibrary s)
           → IsIndexed (without_file name s.files) (without_members file.members s.members) s.jobs orders moves new
       IsIndexed-without_physical old new shared same spares indexed =
           let fewer = its-paths (nat_lt 0 (length spec.keys.parts)) old shared
-          (subst (λ (ps : List PathSpec). IsIndexedFor (ps ++ all_paths others) s.files s.members s.jobs orders moves old) (ap (paths_by s.files file.members) is) (own-first old indexed)) in
+          (subst (λ (ps : List PathSpec). IsIndexedFor (ps ++ all_paths others) s.files s.members s.jobs orders moves old) (ap (paths_by s.files file.members) is) (own-first-of old indexed)) in
           let some : AreShared new.paths = subst AreShared (sym same) fewer.0 in
           let left : IsIndexedFor (all_paths others) s.files s.members s.jobs orders moves new =
           IsIndexed-same (all_paths others) s.files s.members s.jobs orders moves (record { paths = without_paths file.members old.paths; rooms = old.rooms }) new same spares fewer.1 in
@@ -409,34 +417,28 @@ module _ (s : State) (name : List ℕ) (file : FileState) (lawful : IsLibrary s)
           (over-left file.members s.members new.paths (λ k d low number has. not-over new.paths some left.paths number has k d low) left.paths.over)
           (bytes-left file.members s.members left.bytes) left)
 
--- a file of either kind, and its path, where it is a logical one
+-- a file of either kind, and its paths, where it is a logical one
 pub IsIndexed-without_file : (s : State) (name : List ℕ) (file : FileState) → IsLibrary s → IsDistinct same_name (keys_of s.files) → AreApart s.files → named name s.files ≡ Some file
-    → first_dependent name s.files ≡ None → (orders : List (Named OpenOrder)) (moves : List (List (List PathMove))) (path : Option ℕ) (old new : KeptPaths) → AreShared old.paths
-    → IsPathOfNamed s.files old.paths (named name s.files) path → user_by file.spec name file (memory_of s) ≡ None → new.paths ≡ detached_from path (without_paths file.members old.paths)
+    → first_dependent name s.files ≡ None → (orders : List (Named OpenOrder)) (moves : List (List (List PathMove))) (ids : List (Option ℕ)) (old new : KeptPaths) → AreShared old.paths
+    → ArePathsOfNamed s.files old.paths (named name s.files) ids → user_by file.spec name file (memory_of s) ≡ None → new.paths ≡ detached_each ids (without_paths file.members old.paths)
     → ((number : ℕ) → IsSome (item_at number new.paths) → spare_of number new ≡ spare_of number old) → IsIndexed s.files s.members s.jobs orders moves old
     → IsIndexed (without_file name s.files) (without_members file.members s.members) s.jobs orders moves new
-IsIndexed-without_file s name file lawful distinct apart here alone orders moves path old new shared its unused paths spares indexed =
-    by file.spec refl (subst (λ (o : Option FileState). IsPathOfNamed s.files old.paths o path) here its) unused (lawful.bases name file here)
+IsIndexed-without_file s name file lawful distinct apart here alone orders moves ids old new shared its unused paths spares indexed =
+    by file.spec refl (subst (λ (o : Option FileState). ArePathsOfNamed s.files old.paths o ids) here its) unused (lawful.bases name file here)
   where
-    by : (kind : FileSpec) → file.spec ≡ kind → IsPathOf s.files old.paths kind path → user_by kind name file (memory_of s) ≡ None → IsBased s.files name file.members kind
+    by : (kind : FileSpec) → file.spec ≡ kind → ArePathsOf s.files old.paths kind ids → user_by kind name file (memory_of s) ≡ None → IsBased s.files name file.members kind
         → IsIndexed (without_file name s.files) (without_members file.members s.members) s.jobs orders moves new
     by (PhysicalFile spec) is none free based =
         IsIndexed-without_physical s name file lawful distinct apart here alone indexed.views orders moves spec is free old new shared
-        (paths ∙ ap (λ (o : Option ℕ). detached_from o (without_paths file.members old.paths)) none) spares indexed
+        (paths ∙ ap (λ (some : List (Option ℕ)). detached_each some (without_paths file.members old.paths)) none) spares indexed
     by (LogicalFile spec) is own free based =
         subst (λ (gone : Named MemberStatus). IsIndexed (without_file name s.files) (without_members gone s.members) s.jobs orders moves new) (sym based.none)
-        (IsIndexed-without_view s name file lawful distinct apart here alone indexed.views orders moves spec is free path old new shared own
-        (paths ∙ ap (λ (gone : Named MemberStatus). detached_from path (without_paths gone old.paths)) based.none) spares indexed)
+        (IsIndexed-without_view s name file lawful distinct apart here alone indexed.views orders moves spec is free ids old new shared own
+        (paths ∙ ap (λ (gone : Named MemberStatus). detached_each ids (without_paths gone old.paths)) based.none) spares indexed)
 
--- the number of a logical file's path
-pub view-numbered : (files : Named FileState) (paths : NumberedPaths) (kind : FileSpec) (view : LogicalSpec) (path : PathSpec) (id : Option ℕ) → logical_in kind ≡ Some view
-    → path ≡ own_path (bases_in files) view → MatchOption id (IsNew path paths) (λ n. (k : KeptPath) × (item_at n paths ≡ Some k) × (k.spec ≡ path)) → IsPathOf files paths kind id
-view-numbered files paths (PhysicalFile spec) view path id e is found = absurd cc
-view-numbered files paths (LogicalFile spec) view path id e is found = by id found
-  where
-    own : path ≡ own_path (bases_in files) spec
-    own = is ∙ ap (own_path (bases_in files)) (sym (some-equal e))
-
-    by : (o : Option ℕ) → MatchOption o (IsNew path paths) (λ n. (k : KeptPath) × (item_at n paths ≡ Some k) × (k.spec ≡ path)) → IsNumberOf (own_path (bases_in files) spec) o paths
-    by None new = subst (λ (p : PathSpec). IsNew p paths) own new
-    by (Some n) there = any-at (IsNumbered n (own_path (bases_in files) spec)) n there.0 paths there.1 (refl, there.2 ∙ own)
+-- the numbers of a logical file's paths
+pub view-numbered : (files : Named FileState) (paths : NumberedPaths) (kind : FileSpec) (view : LogicalSpec) (specs : List PathSpec) (ids : List (Option ℕ)) → logical_in kind ≡ Some view
+    → specs ≡ logical_paths (bases_in files) view → AreNumbers paths specs ids → ArePathsOf files paths kind ids
+view-numbered files paths (PhysicalFile spec) view specs ids e is found = absurd cc
+view-numbered files paths (LogicalFile spec) view specs ids e is found =
+    subst (λ (some : List PathSpec). AreNumbers paths some ids) (is ∙ ap (logical_paths (bases_in files)) (sym (some-equal e))) found

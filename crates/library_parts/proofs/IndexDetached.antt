@@ -12,7 +12,7 @@ use Rattle.path_set.specs.Sharing.{detached, given_up, one_fewer}
 use Rattle.lawful_states.proofs.NameLemmas.{some-equal}
 use Rattle.library_model.specs.Named.{Named}
 use Rattle.library_steps.specs.State.{MemberStatus}
-use Rattle.library_parts.specs.PathChanges.{detached_from, first_over, without_path_over, without_paths}
+use Rattle.library_parts.specs.PathChanges.{detached_from, first_over, without_path_over, without_paths, detached_each}
 
 pub pairs-tail : (R : Numbered KeptPath → Numbered KeptPath → Type 0) (p : Numbered KeptPath) (paths : NumberedPaths) → AllPairs R (p ∷ paths) → AllPairs R paths
 pairs-tail R p paths all = λ i j d lt low. all (suc i) (suc j) d (omega (arith, lt)) (omega (arith, low))
@@ -118,6 +118,10 @@ some-detached id number paths there = by (item_at id paths) there
 pub some-from : (path : Option ℕ) (number : ℕ) (paths : NumberedPaths) → IsSome (item_at number (detached_from path paths)) → IsSome (item_at number paths)
 some-from None number paths there = there
 some-from (Some id) number paths there = some-detached id number paths there
+
+pub some-each : (ids : List (Option ℕ)) (number : ℕ) (paths : NumberedPaths) → IsSome (item_at number (detached_each ids paths)) → IsSome (item_at number paths)
+some-each [] number paths there = there
+some-each (id ∷ ids) number paths there = some-from id number paths (some-each ids number (detached_from id paths) there)
 
 pub some-left : (member number : ℕ) (paths : NumberedPaths) → IsSome (item_at number (without_path_over member paths)) → IsSome (item_at number paths)
 some-left member number paths there = some-from (first_over member paths) number paths there

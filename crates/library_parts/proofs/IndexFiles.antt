@@ -6,10 +6,10 @@ use Rattle.std.specs.Prelude.{All, replicate}
 use Rattle.std.specs.List.{AllByRecursion, IsDistinct, list_any}
 use Rattle.std.specs.Map.{keys_of}
 use Rattle.std.specs.Option.{option_and_then, option_to_list}
-use Rattle.std.proofs.lemmas.Bool.{cond-true}
+use Rattle.std.proofs.lemmas.Bool.{cond-true, eqb-true}
 use Rattle.std.proofs.lemmas.Bool.Decides.{nat_tests}
 use Rattle.std.proofs.lemmas.List.{length-replicate}
-use Rattle.std.proofs.lemmas.List.Elements.{recursion_from_All}
+use Rattle.std.proofs.lemmas.List.Elements.{recursion_from_All, All-from_recursion}
 use Rattle.access_path.specs.PathBytes.{IsInBytes}
 use Rattle.member_slots.specs.Member.{MemberState, empty_member}
 use Rattle.member_slots.specs.Members.{Numbered, NumberedMembers, member_at, put_member}
@@ -30,7 +30,7 @@ use Rattle.dds_logical.specs.Logical.{described_by, faults_over, format_parts, j
 use Rattle.dds_logical.specs.declared.views.LogicalSpec.{LogicalSpec}
 use Rattle.dds_logical.specs.declared.views.LogicalSpec.TheVariants.{Simple, Multi, Join}
 use Rattle.logical_model.specs.Bases.{Base, Bases, FileSpec, PhysicalFile, LogicalFile, base_members, base_names}
-use Rattle.logical_model.specs.FilePaths.{logical_paths, view_format}
+use Rattle.logical_model.specs.FilePaths.{logical_paths, view_format, secondary_of}
 use Rattle.logical_laws.proofs.ListLemmas.{each-append, each-weaker}
 use Rattle.logical_laws.proofs.MappedLemmas.{described-mapped, described-there}
 use Rattle.logical_paths.specs.KeyedViews.{HaveFewPairs, HaveRecords}
@@ -68,15 +68,18 @@ use Rattle.library_steps.specs.LogicalFiles.{base_in, bases_in, bases_of, physic
 use Rattle.library_steps.specs.MemberCommands.{file_changed, with_member_name}
 use Rattle.library_steps.specs.State.{State, Memory, FileState, MemberStatus, JobState, fields_of, format_in, if_physical, memory_of, physical_among, physical_in, physical_spec}
 use Rattle.library_steps.specs.Uses.{changer_of_any, changes_in, has_changed}
-use Rattle.library_parts.specs.Indexed.{AreOfBytes, AreViewsBeside, IsIndexed, IsIndexedFor, IsUnjoined, IsView, IsViewBeside, RisesIfKeyless, HasSeveral}
+use Rattle.library_parts.specs.Indexed.{AreOfBytes, AreViewsBeside, IsIndexed, IsIndexedFor, IsUnjoined, IsView, IsViewBeside, RisesIfKeyless, HasSeveral, rows_paths}
 use Rattle.lawful_states.specs.Lawful.{AreBased, GoesBack, IsBased, IsLibrary, StandsOver}
-use Rattle.library_parts.specs.PathChanges.{AttachesPath, IsAttached, member_path}
+use Rattle.library_parts.specs.PathChanges.{AttachesPath, member_path, Attaches, AttachesNone, HasNoChange}
 use Rattle.lawful_states.proofs.BaseLemmas.{base-is, kept-more, kept-wider, physical-described, physical-found, physical-here, physical-member, some-of}
 use Rattle.lawful_states.proofs.BackLemmas.{neither}
 use Rattle.library_parts.proofs.IndexPaths.{IsOfMember, changes-all, over-other, physical-of}
 use Rattle.library_parts.proofs.IndexShared.{IsUnchanged, IsIndexed-attached, IsIndexed-files, IsIndexed-members, opens-stay}
 use Rattle.library_parts.proofs.IndexStatus.{beside-alike, files-alike, views-alike}
 use Rattle.library_parts.proofs.IndexGone.{jobs-free}
+use Rattle.file_model.specs.Joins.{secondary_path}
+use Rattle.dds_logical.specs.declared.join_views.JoinedFile.{JoinedFile}
+use Rattle.join_records.proofs.DescribedLemmas.{described-linked}
 
 -- ---- each file stands
 
@@ -238,10 +241,11 @@ module _ (s : State) (orders : List (Named OpenOrder)) (moves : List (List (List
 
 -- ---- a logical file
 
-pub single-path : (bases : Bases) (spec : LogicalSpec) → IsUnjoined (LogicalFile spec) → logical_paths bases spec ≡ own_path bases spec ∷ []
-single-path bases (Simple view) unjoined = refl
-single-path bases (Multi views) unjoined = refl
-single-path bases (Join view) unjoined = absurd unjoined
+-- its own path, and those of a join over its secondary files
+pub own-first : (bases : Bases) (spec : LogicalSpec) → logical_paths bases spec ≡ own_path bases spec ∷ rows_paths bases (LogicalFile spec)
+own-first bases (Simple view) = refl
+own-first bases (Multi views) = refl
+own-first bases (Join view) = refl
 
 -- its path is over the members of its bases, in their order
 members-of-views : (bases : Bases) (views : List View)
@@ -255,15 +259,62 @@ own-members bases (Multi views) unjoined = members-of-views bases views
 own-members bases (Join view) unjoined = absurd unjoined
 
 -- where it may have no equal keys it has one format
-pub own-one : (bases : Bases) (spec : LogicalSpec) → IsUnjoined (LogicalFile spec) → (own_path bases spec).unique ≡ true → length (own_path bases spec).formats ≤ 1
-own-one bases (Simple view) unjoined unique = omega arith
-own-one bases (Multi views) unjoined unique = absurd cc
-own-one bases (Join view) unjoined unique = absurd unjoined
+pub own-one : (bases : Bases) (spec : LogicalSpec) → (own_path bases spec).unique ≡ true → length (own_path bases spec).formats ≤ 1
+own-one bases (Simple view) unique = omega arith
+own-one bases (Multi views) unique = absurd cc
+own-one bases (Join view) unique = omega arith
 
-few-pairs : (spec : LogicalSpec) → IsUnjoined (LogicalFile spec) → HaveFewPairs spec
-few-pairs (Simple view) unjoined = tt
-few-pairs (Multi views) unjoined = tt
-few-pairs (Join view) unjoined = absurd unjoined
+-- ---- the members that its paths are over are among those of its bases
+
+abbrev is_among : ℕ → List ℕ → Bool
+is_among m members = list_any (λ (n : ℕ). n == m) members
+
+among-first : (m : ℕ) (members : List ℕ) → is_among m (m ∷ members) ≡ true
+among-first m members = ap (λ (b : Bool). b || is_among m members) (let e : (m == m) ≡ true = grind (arith, nat_tests) in e)
+
+among-behind : (n : ℕ) (members some : List ℕ) → AllByRecursion (λ (m : ℕ). is_among m members ≡ true) some → AllByRecursion (λ (m : ℕ). is_among m (n ∷ members) ≡ true) some
+among-behind n members [] all = tt
+among-behind n members (m ∷ some) all = (ap (λ (b : Bool). (n == m) || b) all.0 ∙ or-true (n == m), among-behind n members some all.1)
+  where
+    or-true : (b : Bool) → (b || true) ≡ true
+    or-true true = refl
+    or-true false = refl
+
+all-among : (members : List ℕ) → AllByRecursion (λ (m : ℕ). is_among m members ≡ true) members
+all-among [] = tt
+all-among (m ∷ members) = (among-first m members, among-behind m members members (all-among members))
+
+not-any : (p : ℕ → Bool) (all : List ℕ) (m : ℕ) → is_among m all ≡ true → list_any p all ≡ false → p m ≡ false
+not-any p [] m is none = absurd cc
+not-any p (n ∷ all) m is none =
+    let parts = neither (p n) (list_any p all) none in
+    by (n == m) refl parts.0 (λ h. not-any p all m h parts.1)
+  where
+    by : (b : Bool) → (n == m) ≡ b → p n ≡ false → (is_among m all ≡ true → p m ≡ false) → p m ≡ false
+    by true e own rest = subst (λ (k : ℕ). p k ≡ false) (eqb-true n m e) own
+    by false e own rest = rest (ap (λ (b : Bool). b || is_among m all) (sym e) ∙ is)
+
+not-some : (p : ℕ → Bool) (all some : List ℕ) → AllByRecursion (λ (m : ℕ). is_among m all ≡ true) some → list_any p all ≡ false → list_any p some ≡ false
+not-some p all [] among none = refl
+not-some p all (m ∷ some) among none = ap (λ (b : Bool). b || list_any p some) (not-any p all m among.0 none) ∙ not-some p all some among.1 none
+
+-- the members of a path's formats
+abbrev IsOverAmong : List ℕ → PathSpec → Type 0
+IsOverAmong members path = AllByRecursion (λ (m : ℕ). is_among m members ≡ true) (map (λ (f : PathFormat). f.member) path.formats)
+
+secondaries-among : (bases : Bases) (members : List ℕ) (files : List JoinedFile)
+    → AllByRecursion (λ (m : ℕ). is_among m members ≡ true) (map (λ (name : List ℕ). (bases name).member) (map (λ (joined : JoinedFile). joined.file) files))
+    → AllByRecursion (IsOverAmong members) (map secondary_path (map (secondary_of bases) files))
+secondaries-among bases members [] all = tt
+secondaries-among bases members (joined ∷ files) all = ((all.0, tt), secondaries-among bases members files all.1)
+
+pub paths-among : (bases : Bases) (spec : LogicalSpec) → AllByRecursion (IsOverAmong (base_members bases spec)) (logical_paths bases spec)
+paths-among bases (Simple view) = ((among-first (bases view.base).member [], tt), tt)
+paths-among bases (Multi views) =
+    (subst (λ (ms : List ℕ). AllByRecursion (λ (m : ℕ). is_among m (base_members bases (Multi views)) ≡ true) ms) (sym (members-of-views bases views)) (all-among (base_members bases (Multi views))), tt)
+paths-among bases (Join view) =
+    let others : List ℕ = map (λ (name : List ℕ). (bases name).member) (map (λ (joined : JoinedFile). joined.file) view.secondaries) in
+    ((among-first (bases view.primary).member others, tt), secondaries-among bases (base_members bases (Join view)) view.secondaries (among-behind (bases view.primary).member others others (all-among others)))
 
 none-laid : IsLaidOut []
 none-laid = record { few = (let few : 0 ≤ 1000 = omega arith in few); narrow = (let narrow : 0 ≤ 32766 = omega arith in narrow); lies = refl }
@@ -360,10 +411,10 @@ pub record IsDescribedOver (m : Memory) (spec : LogicalSpec) : Type 0 where
   pub over : StandsOver m.files [] spec
   pub view : IsView (bases_of m) spec
 
-described-by : (m : Memory) (r : Result Source DdsFault) (spec : LogicalSpec) → AllAreKeyed m.files → IsUnjoined (LogicalFile spec) → logical_by (λ name. physical_spec name m) r ≡ Ok spec
+described-by : (m : Memory) (r : Result Source DdsFault) (spec : LogicalSpec) → AllAreKeyed m.files → HaveFewPairs spec → logical_by (λ name. physical_spec name m) r ≡ Ok spec
     → IsDescribedOver m spec
-described-by m (Err fault) spec keyed unjoined h = absurd cc
-described-by m (Ok source) spec keyed unjoined h =
+described-by m (Err fault) spec keyed few h = absurd cc
+described-by m (Ok source) spec keyed few h =
     let described : List ℕ → Option PhysicalSpec = λ name. physical_spec name m in record {
       over = record {
         none = refl;
@@ -371,19 +422,19 @@ described-by m (Ok source) spec keyed unjoined h =
             (described-there described source spec h);
       };
       view = record {
-        unjoined = unjoined;
         some = logical-some described source spec h;
         several = described-several described source spec (logical-some described source spec h) h;
-        keyed = described-keyed described (bases_of m) source spec (λ name its e. fields-there name (named name m.files) its e) h (laid-bases m.files keyed (base_names spec)) (few-pairs spec unjoined);
+        keyed = described-keyed described (bases_of m) source spec (λ name its e. fields-there name (named name m.files) its e) h (laid-bases m.files keyed (base_names spec)) few;
         mapped = described-mapped described (bases_of m) source spec (λ name its e. fields-there name (named name m.files) its e) h;
         rises = described-rises described source spec h;
         formats = described-formatted described source spec h;
         bytes = described-bytes described source spec h;
+        linked = described-linked described (bases_of m) source spec (λ name its e. fields-there name (named name m.files) its e) h (laid-bases m.files keyed (base_names spec));
       };
     }
 
-pub described-over : (m : Memory) (text : List ℕ) (spec : LogicalSpec) → AllAreKeyed m.files → IsUnjoined (LogicalFile spec) → logical_described m text ≡ Ok spec → IsDescribedOver m spec
-described-over m text spec keyed unjoined h = described-by m (source_of text) spec keyed unjoined h
+pub described-over : (m : Memory) (text : List ℕ) (spec : LogicalSpec) → AllAreKeyed m.files → HaveFewPairs spec → logical_described m text ≡ Ok spec → IsDescribedOver m spec
+described-over m text spec keyed few h = described-by m (source_of text) spec keyed few h
 
 -- no open commit cycle has changed one of the members that it is over
 none-changed : (number : ℕ) (undos : List MemberChange) → list_any (λ (undo : MemberChange). undo.member == number) undos ≡ false → AllByRecursion (λ (undo : MemberChange). (number == undo.member) ≡ false) undos
@@ -418,6 +469,17 @@ unchanged-path spec members [] own none = tt
 unchanged-path spec members (job ∷ jobs) own none =
     (unchanged-by spec.formats (changes_in job.cycle) (ap (list_any (λ (member : ℕ). has_changed member job)) own ∙ none.0), unchanged-path spec members jobs own none.1)
 
+-- so none has changed one that one of its paths is over
+pub paths-unchanged : (bases : Bases) (spec : LogicalSpec) (jobs : List JobState)
+    → AllByRecursion (λ (job : JobState). list_any (λ (member : ℕ). has_changed member job) (base_members bases spec) ≡ false) jobs → AllByRecursion (HasNoChange jobs) (logical_paths bases spec)
+paths-unchanged bases spec jobs none =
+    each-weaker (IsOverAmong (base_members bases spec)) (HasNoChange jobs)
+    (λ path among. unchanged-path path (map (λ (f : PathFormat). f.member) path.formats) jobs refl
+    (each-weaker (λ (job : JobState). list_any (λ (member : ℕ). has_changed member job) (base_members bases spec) ≡ false)
+    (λ (job : JobState). list_any (λ (member : ℕ). has_changed member job) (map (λ (f : PathFormat). f.member) path.formats) ≡ false)
+    (λ job free. not-some (λ (member : ℕ). has_changed member job) (base_members bases spec) (map (λ (f : PathFormat). f.member) path.formats) among free) jobs none))
+    (logical_paths bases spec) (paths-among bases spec)
+
 -- ---- a logical file more
 
 module _ (s : State) (orders : List (Named OpenOrder)) (moves : List (List (List PathMove))) (lawful : IsLibrary s) (distinct : IsDistinct same_name (keys_of s.files)) (name : List ℕ)
@@ -428,28 +490,45 @@ module _ (s : State) (orders : List (Named OpenOrder)) (moves : List (List (List
   abbrev own : PathSpec
   own = own_path (bases_in s.files) plan.spec
 
-  own-unchanged : IsUnchanged (own_path (bases_in s.files) plan.spec) s.jobs
+  abbrev rows : List PathSpec
+  rows = rows_paths (bases_in s.files) (LogicalFile plan.spec)
+
+  own-unchanged : AllByRecursion (HasNoChange s.jobs) (own_path (bases_in s.files) plan.spec ∷ rows_paths (bases_in s.files) (LogicalFile plan.spec))
   own-unchanged =
-      unchanged-path own (base_members (bases_in s.files) plan.spec) s.jobs (own-members (bases_in s.files) plan.spec its.view.unjoined)
+      subst (AllByRecursion (HasNoChange s.jobs)) (own-first (bases_in s.files) plan.spec) (paths-unchanged (bases_in s.files) plan.spec s.jobs
       (jobs-free (λ (job : JobState). list_any (λ member. has_changed member job) (base_members (bases_in s.files) plan.spec) ≡ false)
-      (λ number job. list_any (λ member. has_changed member job) (base_members (bases_in s.files) plan.spec)) (λ number job none. none) 1 s.jobs unchanged)
+      (λ number job. list_any (λ member. has_changed member job) (base_members (bases_in s.files) plan.spec)) (λ number job none. none) 1 s.jobs unchanged))
+
+  all-unchanged : AllByRecursion (HasNoChange s.jobs) (rows_paths (bases_in s.files) (LogicalFile plan.spec) ++ own_path (bases_in s.files) plan.spec ∷ [])
+  all-unchanged = each-append (HasNoChange s.jobs) rows (own ∷ []) own-unchanged.1 (own-unchanged.0, tt)
 
   own-view : IsView (bases_in with_view) plan.spec
   own-view = beside-alike s.files with_view (LogicalFile plan.spec) (alike-more s.files (name, logical_file plan) name [] (LogicalFile plan.spec) its.over.bases) its.view
 
-  own-grown : (path : PathSpec) → count_in path (own_path (bases_in s.files) plan.spec ∷ all_paths s.files) ≡ count_in path (all_paths (s.files ++ (name, logical_file plan) ∷ []))
+  own-grown : (path : PathSpec) → count_in path ((rows_paths (bases_in s.files) (LogicalFile plan.spec) ++ own_path (bases_in s.files) plan.spec ∷ []) ++ all_paths s.files)
+      ≡ count_in path (all_paths (s.files ++ (name, logical_file plan) ∷ []))
   own-grown path =
-      count-append path (own ∷ []) (all_paths s.files)
-      ∙ turned (count_in path (own ∷ [])) (count_in path (all_paths s.files)) (count_in path (all_paths with_view))
-      (ap (count_in path) (paths-more s.files name (logical_file plan) (stand-based s.files distinct lawful.bases)
-      ∙ ap (λ (ps : List PathSpec). all_paths s.files ++ ps) (paths-own s.files name (logical_file plan) its.over.bases ∙ single-path (bases_in s.files) plan.spec its.view.unjoined))
-      ∙ count-append path (all_paths s.files) (own ∷ []))
+      let before = count-append path (rows ++ own ∷ []) (all_paths s.files) in
+      let its_own = count-append path rows (own ∷ []) in
+      let after : count_in path (all_paths with_view) ≡ count_in path (all_paths s.files) + count_in path (own ∷ rows) =
+      ap (count_in path) (paths-more s.files name (logical_file plan) (stand-based s.files distinct lawful.bases)
+      ∙ ap (λ (ps : List PathSpec). all_paths s.files ++ ps) (paths-own s.files name (logical_file plan) its.over.bases ∙ own-first (bases_in s.files) plan.spec))
+      ∙ count-append path (all_paths s.files) (own ∷ rows) in
+      let both = count-append path (own ∷ []) rows in
+      omega (arith, before, its_own, after, both)
 
-  pub IsIndexed-with_view : (old new : KeptPaths) → AreShared old.paths → IsAttached (own_path (bases_in s.files) plan.spec) s.members old new → IsIndexed s.files s.members s.jobs orders moves old
+  pub IsIndexed-with_view : (old new : KeptPaths) → AreShared old.paths
+      → Attaches (rows_paths (bases_in s.files) (LogicalFile plan.spec) ++ own_path (bases_in s.files) plan.spec ∷ []) s.members old new → IsIndexed s.files s.members s.jobs orders moves old
       → IsIndexed (s.files ++ (name, logical_file plan) ∷ []) s.members s.jobs orders moves new
   IsIndexed-with_view old new shared is indexed =
-      with-file s orders moves lawful distinct name (logical_file plan) (own ∷ all_paths s.files) s.members new own-view own-grown
-      (IsIndexed-attached (all_paths s.files) s.files s.members s.jobs orders moves own own-unchanged old new shared is indexed)
+      with-file s orders moves lawful distinct name (logical_file plan) ((rows ++ own ∷ []) ++ all_paths s.files) s.members new own-view own-grown
+      (is.indexed shared (all_paths s.files) s.files s.jobs orders moves all-unchanged indexed)
+
+  -- or none of its paths
+  pub IsIndexed-without_paths : (old new : KeptPaths) → AreShared old.paths
+      → AttachesNone (rows_paths (bases_in s.files) (LogicalFile plan.spec) ++ own_path (bases_in s.files) plan.spec ∷ []) s.members old new → IsIndexed s.files s.members s.jobs orders moves old
+      → IsIndexed s.files s.members s.jobs orders moves new
+  IsIndexed-without_paths old new shared is indexed = is.indexed shared (all_paths s.files) s.files s.jobs orders moves all-unchanged indexed
 
 -- ---- whether its path can be kept
 
@@ -478,23 +557,30 @@ module _ (s : State) (lawful : IsLibrary s)
       each-weaker (λ (base : List ℕ). is_some (physical_among base s.files) ≡ true)
       (λ (base : List ℕ). HasRecordsOf (bases_in s.files base).fields (bases_in s.files base).member s.members) base-records (base_names spec) over.bases
 
+  paths-can : (spec : LogicalSpec) → IsDescribedOver (memory_of s) spec
+      → AllByRecursion (λ (p : PathSpec). CanBeKept p s.members) (own_path (bases_in s.files) spec ∷ rows_paths (bases_in s.files) (LogicalFile spec))
+  paths-can spec its =
+      recursion_from_All (λ (p : PathSpec). CanBeKept p s.members) (own_path (bases_in s.files) spec ∷ rows_paths (bases_in s.files) (LogicalFile spec))
+      (subst (λ (ps : List PathSpec). All (λ (p : PathSpec). CanBeKept p s.members) ps) (own-first (bases_in s.files) spec)
+      (paths-kept (bases_in s.files) spec s.members its.view.keyed (have-records spec its.over)))
+
   pub view-can : (spec : LogicalSpec) → IsDescribedOver (memory_of s) spec → CanBeKept (own_path (bases_in s.files) spec) s.members
-  view-can spec its =
-      (recursion_from_All (λ (p : PathSpec). CanBeKept p s.members) (own_path (bases_in s.files) spec ∷ [])
-      (subst (λ (ps : List PathSpec). All (λ (p : PathSpec). CanBeKept p s.members) ps) (single-path (bases_in s.files) spec its.view.unjoined)
-      (paths-kept (bases_in s.files) spec s.members its.view.keyed (have-records spec its.over)))).0
+  view-can spec its = (paths-can spec its).0
+
+  pub rows-can : (spec : LogicalSpec) → IsDescribedOver (memory_of s) spec → All (λ (p : PathSpec). CanBeKept p s.members) (rows_paths (bases_in s.files) (LogicalFile spec))
+  rows-can spec its = All-from_recursion (λ (p : PathSpec). CanBeKept p s.members) (rows_paths (bases_in s.files) (LogicalFile spec)) (paths-can spec its).1
 
   pub view-tells : (spec : LogicalSpec) → IsDescribedOver (memory_of s) spec → TellsRepeated (own_path (bases_in s.files) spec) s.members
   view-tells spec its = record {
-    bytes = (recursion_from_All (λ (p : PathSpec). IsInBytes p s.members) (own_path (bases_in s.files) spec ∷ [])
-        (subst (λ (ps : List PathSpec). All (λ (p : PathSpec). IsInBytes p s.members) ps) (single-path (bases_in s.files) spec its.view.unjoined)
+    bytes = (recursion_from_All (λ (p : PathSpec). IsInBytes p s.members) (own_path (bases_in s.files) spec ∷ rows_paths (bases_in s.files) (LogicalFile spec))
+        (subst (λ (ps : List PathSpec). All (λ (p : PathSpec). IsInBytes p s.members) ps) (own-first (bases_in s.files) spec)
         (paths-bytes (bases_in s.files) spec s.members its.view.keyed (have-records spec its.over)))).0;
-    one = own-one (bases_in s.files) spec its.view.unjoined;
+    one = own-one (bases_in s.files) spec;
   }
 
 -- what is refused of equal keys in its path
-pub view-repeated : (m : Memory) (spec : LogicalSpec) → IsUnjoined (LogicalFile spec) → first_repeated (logical_paths (bases_of m) spec) m ≡ repeated_in (own_path (bases_of m) spec) m.members
-view-repeated m spec unjoined = ap (λ (ps : List PathSpec). first_repeated ps m) (single-path (bases_of m) spec unjoined)
+pub view-repeated : (m : Memory) (spec : LogicalSpec) → first_repeated (logical_paths (bases_of m) spec) m ≡ repeated_in (own_path (bases_of m) spec) m.members
+view-repeated m spec = ap (λ (ps : List PathSpec). first_repeated ps m) (own-first (bases_of m) spec)
 
 -- ---- physical files
 

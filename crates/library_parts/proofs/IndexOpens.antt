@@ -6,6 +6,7 @@ use Rattle.std.specs.List.{AllZip}
 use Rattle.std.proofs.lemmas.List.{map-append}
 use Rattle.std.proofs.lemmas.List.Sums.{sum_by_push}
 use Rattle.commit_level.specs.declared.Level.{Level}
+use Rattle.file_model.specs.Joins.{RowPlace}
 use Rattle.file_model.specs.Paths.{PathEntry}
 use Rattle.file_model.specs.Positions.{Position}
 use Rattle.journal_model.specs.Rollback.{MemberChange}
@@ -24,11 +25,12 @@ use Rattle.library_steps.specs.Commitment.{with_level}
 use Rattle.library_steps.specs.LogicalFiles.{bases_in}
 use Rattle.library_steps.specs.Opens.{new_open, with_open, without_open}
 use Rattle.library_steps.specs.Records.{is_file_path}
-use Rattle.library_steps.specs.Reads.{open_changed, positioned, has_read, entry_found}
+use Rattle.library_steps.specs.Reads.{open_changed, positioned, has_read, entry_found, row_found}
 use Rattle.library_steps.specs.State.{FileState, OpenState, JobState, job_changed, with_opens, new_job}
 use Rattle.library_steps.specs.Uses.{changes_in}
-use Rattle.library_parts.specs.Indexed.{IsReadSo, ReadsBy, ReadsFile, ReadsIn, OpensRead, moves_back, moves_of_job, changes_over, path_read, IsIndexed}
+use Rattle.library_parts.specs.Indexed.{IsReadSo, ReadsBy, ReadsFile, ReadsIn, OpensRead, moves_back, moves_of_job, changes_over, path_read, IsIndexed, ReadsRowsBy}
 use Rattle.library_parts.proofs.IndexPaths.{counted_in, changes_over-cons, spares-fewer}
+use Rattle.dds_logical.specs.declared.join_views.JoinView.{JoinView}
 
 -- ---- opens that read as they did
 
@@ -51,7 +53,7 @@ reads-alike files paths opened other order same reads =
     by : (o : Option FileState) → ReadsFile (bases_in files) paths opened order o → ReadsFile (bases_in files) paths other order o
     by None h = h
     by (Some file) h =
-        subst (λ (o : OpenState). ReadsBy paths (path_read (bases_in files) file o) order × IsReadSo (is_file_path o.access_path) file.spec)
+        subst (λ (o : OpenState). ReadsBy paths (path_read (bases_in files) file o) order × IsReadSo (is_file_path o.access_path) file.spec × ReadsRowsBy (bases_in files) paths file.spec order.join)
         (λ i. record opened { members = sym same.members i; access_path = sym same.access_path i })
         h
 
@@ -150,15 +152,23 @@ module _ (files : Named FileState) (members : NumberedMembers) (jobs : List JobS
         | false ↦ same-open opened
       ])
 
-  pub IsIndexed-positioned : (place number : ℕ) (position : Position PathEntry) → IsIndexed files members jobs orders moves kept
-      → IsIndexed files members (job_changed place (open_changed number (positioned None position)) jobs) orders moves kept
-  IsIndexed-positioned place number position =
-      IsIndexed-open_changed place number (positioned None position) (λ opened. record { file = refl; members = refl; access_path = refl })
+  pub IsIndexed-positioned : (place number : ℕ) (view : Option JoinView) (position : Position PathEntry) → IsIndexed files members jobs orders moves kept
+      → IsIndexed files members (job_changed place (open_changed number (positioned view position)) jobs) orders moves kept
+  IsIndexed-positioned place number view position = IsIndexed-open_changed place number (positioned view position) (same view)
+    where
+      same : (o : Option JoinView) (opened : OpenState) → SameReads opened (positioned o position opened)
+      same None opened = record { file = refl; members = refl; access_path = refl }
+      same (Some join) opened = record { file = refl; members = refl; access_path = refl }
 
   pub IsIndexed-has_read : (place number : ℕ) (call : Call) (entry : PathEntry) → IsIndexed files members jobs orders moves kept
       → IsIndexed files members (job_changed place (open_changed number (has_read call (entry_found entry))) jobs) orders moves kept
   IsIndexed-has_read place number call entry =
       IsIndexed-open_changed place number (has_read call (entry_found entry)) (λ opened. record { file = refl; members = refl; access_path = refl })
+
+  pub IsIndexed-row_read : (place number : ℕ) (call : Call) (at : RowPlace) → IsIndexed files members jobs orders moves kept
+      → IsIndexed files members (job_changed place (open_changed number (has_read call (row_found at))) jobs) orders moves kept
+  IsIndexed-row_read place number call at =
+      IsIndexed-open_changed place number (has_read call (row_found at)) (λ opened. record { file = refl; members = refl; access_path = refl })
 
   pub IsIndexed-without_current : (place number : ℕ) → IsIndexed files members jobs orders moves kept
       → IsIndexed files members (job_changed place (open_changed number without_current) jobs) orders moves kept

@@ -15,12 +15,12 @@ use Rattle.dds_physical.specs.declared.physical_files.PhysicalSpec.{PhysicalSpec
 use Rattle.dds_logical.specs.declared.views.LogicalSpec.{LogicalSpec}
 use Rattle.dds_logical.specs.declared.views.LogicalSpec.TheVariants.{Simple, Multi, Join}
 use Rattle.logical_model.specs.Bases.{Bases, FileSpec, PhysicalFile, LogicalFile}
-use Rattle.logical_model.specs.FilePaths.{view_format}
+use Rattle.logical_model.specs.FilePaths.{view_format, secondary_of}
 use Rattle.logical_model.specs.Formats.{has_key}
 use Rattle.logical_laws.specs.Mapped.{AreSameBases}
 use Rattle.logical_laws.proofs.ListLemmas.{each-append, each-contained}
 use Rattle.logical_laws.proofs.SameLemmas.{same-paths}
-use Rattle.logical_paths.specs.Steps.{own_path}
+use Rattle.logical_paths.specs.Steps.{own_path, shown_in_join}
 use Rattle.library_paths.specs.AllPaths.{AreKeptFor, all_paths, paths_among, paths_by}
 use Rattle.library_paths.specs.KeptOnce.{with_entries}
 use Rattle.library_paths.proofs.KeptLemmas.{kept-contained}
@@ -30,16 +30,19 @@ use Rattle.path_set.specs.KeptPaths.{AreShared, KeptPath, KeptPaths, NumberedPat
 use Rattle.path_set.specs.RecordChanges.{RecordChange, reversed, moves_of, in_path, moves_in, HaveRoom}
 use Rattle.path_set.specs.MemberSteps.{is_over}
 use Rattle.lawful_states.proofs.NameLemmas.{some-equal}
-use Rattle.job_table.specs.Opens.{OpenOrder}
+use Rattle.job_table.specs.Opens.{OpenOrder, JoinOrder}
 use Rattle.library_model.specs.Named.{Named, named}
 use Rattle.library_steps.specs.Opens.{first_of}
 use Rattle.library_steps.specs.Records.{is_file_path}
 use Rattle.library_steps.specs.LogicalFiles.{bases_in}
 use Rattle.library_steps.specs.State.{FileState, MemberStatus, OpenState, CycleState, JobState, job_changed}
 use Rattle.library_steps.specs.Uses.{changes_in}
-use Rattle.library_parts.specs.Indexed.{AreViews, AreViewsBeside, IsViewBeside, AreSameBasesBy, IsIndexedFor, IsReadSo, OpensRead, ReadsBy, ReadsFile, ReadsIn, HaveSpares, changes_over, moves_back, moves_of_job, path_by, record_change}
+use Rattle.library_parts.specs.Indexed.{AreViews, AreViewsBeside, IsViewBeside, AreSameBasesBy, IsIndexedFor, IsReadSo, OpensRead, ReadsBy, ReadsFile, ReadsIn, HaveSpares, changes_over, moves_back, moves_of_job, path_by, record_change, AreNumbersOf, IsByRows, ReadsRowsBy, rows_paths}
 use Rattle.lawful_states.specs.Lawful.{GoesBack, CycleGoesBack, AllGoBack}
 use Rattle.lawful_states.proofs.BaseLemmas.{IsKept}
+use Rattle.file_model.specs.Joins.{secondary_path}
+use Rattle.dds_logical.specs.declared.join_views.JoinView.{JoinView}
+use Rattle.dds_logical.specs.declared.join_views.JoinedFile.{JoinedFile}
 
 -- ---- lists
 
@@ -129,6 +132,11 @@ physicals-of : (files : Named FileState) (spec : PhysicalSpec) (members : Named 
 physicals-of files spec [] = tt
 physicals-of files spec (entry ∷ members) = (record { one = λ unique. (entry.1.number, physical-of entry.1.number spec) }, physicals-of files spec members)
 
+-- those over the secondary files of a join may have equal keys
+secondaries-of : (files : Named FileState) (secondaries : List JoinedFile) → AllByRecursion (IsOfOwner files) (map secondary_path (map (secondary_of (bases_in files)) secondaries))
+secondaries-of files [] = tt
+secondaries-of files (joined ∷ secondaries) = (record { one = λ unique. absurd cc }, secondaries-of files secondaries)
+
 file-of : (files : Named FileState) (members : Named MemberStatus) (spec : FileSpec) → IsViewBeside files spec → AllByRecursion (IsOfOwner files) (paths_by files members spec)
 file-of files members (PhysicalFile spec) view =
     elim (nat_lt 0 (length spec.keys.parts)) as (λ b. AllByRecursion (IsOfOwner files)
@@ -139,7 +147,15 @@ file-of files members (PhysicalFile spec) view =
 file-of files members (LogicalFile (Simple view)) is =
     (record { one = λ unique. ((bases_in files view.base).member, record { format = view_format (bases_in files) view; formats = refl; member = refl }) }, tt)
 file-of files members (LogicalFile (Multi views)) is = (record { one = λ unique. absurd cc }, tt)
-file-of files members (LogicalFile (Join view)) is = absurd is.unjoined
+file-of files members (LogicalFile (Join view)) is = (
+  record {
+    one = λ unique. (
+      (bases_in files view.primary).member,
+      record { format = path_format (bases_in files view.primary).member every_record (shown_in_join view.fields) view.keys.parts; formats = refl; member = refl },
+    );
+  },
+  secondaries-of files view.secondaries,
+)
 
 all-of : (all files : Named FileState) → AreViewsBeside all files → AllByRecursion (IsOfOwner all) (paths_among all files)
 all-of all [] views = tt
@@ -192,6 +208,35 @@ path_by-same : (bases others : Bases) (keyed : Bool) (member : ℕ) (spec : File
 path_by-same bases others keyed member (PhysicalFile spec) same = refl
 path_by-same bases others keyed member (LogicalFile spec) same = ap (λ (p : PathSpec). Some p) (own-same bases others spec same)
 
+-- and so have a join's secondary files
+abbrev pub tail_of : List PathSpec → List PathSpec
+tail_of [] = []
+tail_of (path ∷ paths) = paths
+
+rows-same : (bases others : Bases) (kept : NumberedPaths) (spec : FileSpec) (join : Option JoinOrder) → AreSameBasesBy bases others spec → ReadsRowsBy bases kept spec join
+    → ReadsRowsBy others kept spec join
+rows-same bases others kept (PhysicalFile spec) join same is = is
+rows-same bases others kept (LogicalFile (Simple view)) join same is = is
+rows-same bases others kept (LogicalFile (Multi views)) join same is = is
+rows-same bases others kept (LogicalFile (Join view)) None same is = absurd is
+rows-same bases others kept (LogicalFile (Join view)) (Some join) same is =
+    let paths : rows_paths bases (LogicalFile (Join view)) ≡ rows_paths others (LogicalFile (Join view)) = ap tail_of (same-paths bases others (Join view) same) in
+    record { paths = subst (λ (ps : List PathSpec). AreNumbersOf kept ps join.paths) paths is.paths; parts = is.parts; sequences = is.sequences }
+
+numbers-stay : (old new : NumberedPaths) → PathsStay old new → (specs : List PathSpec) (ids : List ℕ) → AreNumbersOf old specs ids → AreNumbersOf new specs ids
+numbers-stay old new stay [] [] are = tt
+numbers-stay old new stay [] (id ∷ ids) are = absurd are
+numbers-stay old new stay (spec ∷ specs) [] are = absurd are
+numbers-stay old new stay (spec ∷ specs) (id ∷ ids) are = (stay id spec are.0, numbers-stay old new stay specs ids are.1)
+
+rows-by : (old new : NumberedPaths) (bases : Bases) (spec : FileSpec) (join : Option JoinOrder) → PathsStay old new → ReadsRowsBy bases old spec join → ReadsRowsBy bases new spec join
+rows-by old new bases (PhysicalFile spec) join stay is = is
+rows-by old new bases (LogicalFile (Simple view)) join stay is = is
+rows-by old new bases (LogicalFile (Multi views)) join stay is = is
+rows-by old new bases (LogicalFile (Join view)) None stay is = absurd is
+rows-by old new bases (LogicalFile (Join view)) (Some join) stay is =
+    record { paths = numbers-stay old new stay (rows_paths bases (LogicalFile (Join view))) join.paths is.paths; parts = is.parts; sequences = is.sequences }
+
 pub reads-by : (old new : NumberedPaths) (path : Option PathSpec) (order : OpenOrder) → PathsStay old new → ReadsBy old path order → ReadsBy new path order
 reads-by old new None order stay is = is
 reads-by old new (Some spec) order stay is = record { path = (is.path.0, is.path.1, stay is.path.0 spec is.path.2); formats = is.formats }
@@ -210,11 +255,12 @@ read-stays files others old new stay entry order kept reads = by (named entry.1.
     by (Some file) is h =
         let its = kept file is in
         subst (ReadsFile (bases_in others) new entry.1 order.1) (sym its.kept.there)
-        (subst (λ (s : FileSpec). ReadsBy new (path_of (bases_in others) s entry.1) order.1 × IsReadSo (is_file_path entry.1.access_path) s) (sym its.kept.keeps.spec) (
+        (subst (λ (s : FileSpec). ReadsBy new (path_of (bases_in others) s entry.1) order.1 × IsReadSo (is_file_path entry.1.access_path) s × ReadsRowsBy (bases_in others) new s order.1.join) (sym its.kept.keeps.spec) (
           subst (λ (p : Option PathSpec). ReadsBy new p order.1)
               (path_by-same (bases_in files) (bases_in others) (is_file_path entry.1.access_path && has_key file.spec) (first_of entry.1.members) file.spec its.bases)
               (reads-by old new (path_of (bases_in files) file.spec entry.1) order.1 stay h.0),
           h.1,
+          rows-same (bases_in files) (bases_in others) new file.spec order.1.join its.bases (rows-by old new (bases_in files) file.spec order.1.join stay h.2),
         ))
 
 pub reads-in : (files others : Named FileState) (old new : NumberedPaths) → FilesStay files others → PathsStay old new → (entry : List ℕ × OpenState) (order : List ℕ × OpenOrder)

@@ -17,18 +17,19 @@ use Rattle.path_set.specs.Sharing.{IsShared, IsPut, detached, given_up, one_fewe
 use Rattle.path_set.proofs.MemberStepLemmas.{moves-others}
 use Rattle.library_paths.specs.AllPaths.{AreKeptFor, count_in}
 use Rattle.library_paths.proofs.CountLemmas.{contained-count, count-own}
-use Rattle.library_paths.proofs.KeptLemmas.{attached, counted-alike, detached-kept}
+use Rattle.library_paths.proofs.KeptLemmas.{attached, counted-alike, detached-kept, kept-contained}
 use Rattle.library_paths.proofs.ListLemmas.{EachTwo, each-filter, each-of, filter-all, two-from}
 use Rattle.library_paths.proofs.NumberLemmas.{IsBelow, any-put, any-with, any-without, each-at, each-put, each-with, under}
 use Rattle.lawful_states.proofs.NameLemmas.{some-equal}
-use Rattle.job_table.specs.Opens.{OpenOrder}
+use Rattle.job_table.specs.Opens.{OpenOrder, JoinOrder}
 use Rattle.library_model.specs.Named.{Named, named}
 use Rattle.library_steps.specs.LogicalFiles.{bases_in}
 use Rattle.library_steps.specs.State.{FileState, OpenState, JobState}
-use Rattle.library_parts.specs.Indexed.{AreOfBytes, AreSameBasesBy, AreViews, IsIndexedFor, OpensRead, ReadsBy, ReadsFile, ReadsIn, HaveSpares, changes_over, moves_back, moves_of_job, path_read, record_change}
+use Rattle.library_parts.specs.Indexed.{AreOfBytes, AreSameBasesBy, AreViews, IsIndexedFor, OpensRead, ReadsBy, ReadsFile, ReadsIn, HaveSpares, changes_over, moves_back, moves_of_job, path_read, record_change, AreNumbersOf, ReadsRowsBy, rows_paths}
 use Rattle.library_parts.specs.PathChanges.{IsAttached}
 use Rattle.lawful_states.proofs.BaseLemmas.{Keeps-self}
-use Rattle.library_parts.proofs.IndexPaths.{FileStays, FilesStay, OfChanges, PathsStay, changes-each, changes-none, moves-among, orders-stay, read-stays}
+use Rattle.library_parts.proofs.IndexPaths.{FileStays, FilesStay, OfChanges, PathsStay, changes-each, changes-none, moves-among, orders-stay, read-stays, any-both}
+use Rattle.dds_logical.specs.declared.views.LogicalSpec.TheVariants.{Simple, Multi, Join}
 
 pub clash : {b : Bool} → b ≡ true → b ≡ false → ⊥
 clash yes_is no_is = absurd cc
@@ -161,8 +162,12 @@ opens-stay files others stay (job ∷ jobs) = (each job.opens, opens-stay files 
 
 -- ---- opens that read by one of some paths
 
+pub record ReadsAmong (specs : List PathSpec) (bases : Bases) (opened : OpenState) (file : FileState) : Type 0 where
+  pub path : IfSome (path_read bases file opened) (Contains specs)
+  pub rows : AllByRecursion (Contains specs) (rows_paths bases file.spec)
+
 abbrev pub OpenIsAmong : List PathSpec → Named FileState → List ℕ × OpenState → Type 0
-OpenIsAmong specs files entry = IfSome (named entry.1.file files) (λ file. IfSome (path_read (bases_in files) file entry.1) (Contains specs))
+OpenIsAmong specs files entry = IfSome (named entry.1.file files) (ReadsAmong specs (bases_in files) entry.1)
 
 abbrev pub OpensAreAmong : List PathSpec → Named FileState → List JobState → Type 0
 OpensAreAmong specs files jobs = AllByRecursion (λ job. AllByRecursion (OpenIsAmong specs files) job.opens) jobs
@@ -176,14 +181,73 @@ reads-among : (specs : List PathSpec) (old new : NumberedPaths) (path : Option P
 reads-among specs old new None order stay among is = is
 reads-among specs old new (Some spec) order stay among is = record { path = (is.path.0, is.path.1, stay is.path.0 spec among is.path.2); formats = is.formats }
 
+numbers-among : (specs : List PathSpec) (old new : NumberedPaths) → StayAmong specs old new → (some : List PathSpec) (ids : List ℕ) → AllByRecursion (Contains specs) some → AreNumbersOf old some ids
+    → AreNumbersOf new some ids
+numbers-among specs old new stay [] [] among are = tt
+numbers-among specs old new stay [] (id ∷ ids) among are = absurd are
+numbers-among specs old new stay (spec ∷ some) [] among are = absurd are
+numbers-among specs old new stay (spec ∷ some) (id ∷ ids) among are = (stay id spec among.0 are.0, numbers-among specs old new stay some ids among.1 are.1)
+
+rows-among : (specs : List PathSpec) (old new : NumberedPaths) (bases : Bases) (spec : FileSpec) (join : Option JoinOrder) → StayAmong specs old new → AllByRecursion (Contains specs) (rows_paths bases spec)
+    → ReadsRowsBy bases old spec join → ReadsRowsBy bases new spec join
+rows-among specs old new bases (PhysicalFile spec) join stay among is = is
+rows-among specs old new bases (LogicalFile (Simple view)) join stay among is = is
+rows-among specs old new bases (LogicalFile (Multi views)) join stay among is = is
+rows-among specs old new bases (LogicalFile (Join view)) None stay among is = absurd is
+rows-among specs old new bases (LogicalFile (Join view)) (Some join) stay among is =
+    record { paths = numbers-among specs old new stay (rows_paths bases (LogicalFile (Join view))) join.paths among is.paths; parts = is.parts; sequences = is.sequences }
+
 open-among : (specs : List PathSpec) (files : Named FileState) (old new : NumberedPaths) → StayAmong specs old new → (entry : List ℕ × OpenState) (order : List ℕ × OpenOrder)
     → OpenIsAmong specs files entry → ReadsIn files old entry order → ReadsIn files new entry order
 open-among specs files old new stay entry order among reads = by (named entry.1.file files) among reads
   where
-    by : (o : Option FileState) → IfSome o (λ file. IfSome (path_read (bases_in files) file entry.1) (Contains specs)) → ReadsFile (bases_in files) old entry.1 order.1 o
+    by : (o : Option FileState) → IfSome o (ReadsAmong specs (bases_in files) entry.1) → ReadsFile (bases_in files) old entry.1 order.1 o
         → ReadsFile (bases_in files) new entry.1 order.1 o
     by None own h = absurd h
-    by (Some file) own h = (reads-among specs old new (path_read (bases_in files) file entry.1) order.1 stay own h.0, h.1)
+    by (Some file) own h = (reads-among specs old new (path_read (bases_in files) file entry.1) order.1 stay own.path h.0, h.1, rows-among specs old new (bases_in files) file.spec order.1.join stay own.rows h.2)
+
+-- each open reads by paths among those for which the kept ones are
+module _ (specs : List PathSpec) (files : Named FileState) (members : NumberedMembers) (kept : NumberedPaths) (shared : AreShared kept) (are : AreKeptFor specs members kept) where
+  number-among : (id : ℕ) (spec : PathSpec) → Any (IsNumbered id spec) kept → Contains specs spec
+  number-among id spec any =
+      let found = any-both (λ (q : Numbered KeptPath). Contains specs q.item.spec) (IsNumbered id spec) kept (kept-contained specs members kept shared are) any in
+      subst (Contains specs) found.2.1 found.1
+
+  path-among : (path : Option PathSpec) (order : OpenOrder) → ReadsBy kept path order → IfSome path (Contains specs)
+  path-among None order is = tt
+  path-among (Some spec) order is = number-among is.path.0 spec is.path.2
+
+  each-among : (some : List PathSpec) (ids : List ℕ) → AreNumbersOf kept some ids → AllByRecursion (Contains specs) some
+  each-among [] [] numbers = tt
+  each-among [] (id ∷ ids) numbers = tt
+  each-among (spec ∷ some) [] numbers = absurd numbers
+  each-among (spec ∷ some) (id ∷ ids) numbers = (number-among id spec numbers.0, each-among some ids numbers.1)
+
+  rows-known : (bases : Bases) (spec : FileSpec) (join : Option JoinOrder) → ReadsRowsBy bases kept spec join → AllByRecursion (Contains specs) (rows_paths bases spec)
+  rows-known bases (PhysicalFile spec) join is = tt
+  rows-known bases (LogicalFile (Simple view)) join is = tt
+  rows-known bases (LogicalFile (Multi views)) join is = tt
+  rows-known bases (LogicalFile (Join view)) None is = absurd is
+  rows-known bases (LogicalFile (Join view)) (Some join) is = each-among (rows_paths bases (LogicalFile (Join view))) join.paths is.paths
+
+  open-known : (entry : List ℕ × OpenState) (order : List ℕ × OpenOrder) → ReadsIn files kept entry order → OpenIsAmong specs files entry
+  open-known entry order reads = by (named entry.1.file files) reads
+    where
+      by : (o : Option FileState) → ReadsFile (bases_in files) kept entry.1 order.1 o → IfSome o (ReadsAmong specs (bases_in files) entry.1)
+      by None h = absurd h
+      by (Some file) h = record { path = path-among (path_read (bases_in files) file entry.1) order.1 h.0; rows = rows-known (bases_in files) file.spec order.1.join h.2 }
+
+  opens-known : (opens : Named OpenState) (orders : Named OpenOrder) → AllZip (ReadsIn files kept) opens orders → AllByRecursion (OpenIsAmong specs files) opens
+  opens-known [] [] reads = tt
+  opens-known [] (order ∷ orders) reads = absurd reads
+  opens-known (entry ∷ opens) [] reads = absurd reads
+  opens-known (entry ∷ opens) (order ∷ orders) reads = (open-known entry order reads.0, opens-known opens orders reads.1)
+
+  pub jobs-known : (jobs : List JobState) (orders : List (Named OpenOrder)) → AllZip (OpensRead files kept) jobs orders → OpensAreAmong specs files jobs
+  jobs-known [] [] reads = tt
+  jobs-known [] (its ∷ orders) reads = absurd reads
+  jobs-known (job ∷ jobs) [] reads = absurd reads
+  jobs-known (job ∷ jobs) (its ∷ orders) reads = (opens-known job.opens its reads.0, jobs-known jobs orders reads.1)
 
 orders-among : (specs : List PathSpec) (files : Named FileState) (old new : NumberedPaths) → StayAmong specs old new → (jobs : List JobState) (orders : List (Named OpenOrder))
     → OpensAreAmong specs files jobs → AllZip (OpensRead files old) jobs orders → AllZip (OpensRead files new) jobs orders
@@ -195,7 +259,7 @@ module _ (specs : List PathSpec) (files : Named FileState) (members : NumberedMe
   -- ---- a file gets a path
 
   module _ (spec : PathSpec) (unchanged : IsUnchanged spec jobs) (old new : KeptPaths) (shared : AreShared old.paths) where
-    paths-attached : (id : ℕ) → (IsShared spec id old.paths new.paths ⊎ IsPut spec members id old.paths new.paths) → PathsStay old.paths new.paths
+    pub paths-attached : (id : ℕ) → (IsShared spec id old.paths new.paths ⊎ IsPut spec members id old.paths new.paths) → PathsStay old.paths new.paths
     paths-attached id (inl its) n sp any =
         subst (λ (p : NumberedPaths). Any (IsNumbered n sp) p) (sym its.counted) (any-with id its.path (one_more its.path) (IsNumbered n sp) old.paths (λ own. own) its.there any)
     paths-attached id (inr its) n sp any =
@@ -250,7 +314,7 @@ module _ (specs : List PathSpec) (files : Named FileState) (members : NumberedMe
         by true is = fewer (let more : 1 < path.files = grind (arith, nat_tests) in more)
         by false is = last (let few : path.files ≤ 1 = grind (arith, nat_tests) in few)
 
-    stay-detached : AreKeptFor (spec ∷ specs) members old.paths → StayAmong specs old.paths (detached id old.paths)
+    pub stay-detached : AreKeptFor (spec ∷ specs) members old.paths → StayAmong specs old.paths (detached id old.paths)
     stay-detached is n sp among any =
         fewer-or-last (λ (p : NumberedPaths). Any (IsNumbered n sp) p)
         (λ more. any-with id path (one_fewer path) (IsNumbered n sp) old.paths (λ own. own) at any)

@@ -8,7 +8,7 @@ use Rattle.dds_logical.specs.declared.views.LogicalSpec.TheVariants.{Simple, Mul
 use Rattle.logical_model.specs.Bases.{Base, Bases, FileSpec, PhysicalFile, LogicalFile, base_names}
 use Rattle.logical_laws.specs.Mapped.{AreSameBases}
 use Rattle.logical_laws.proofs.SameLemmas.{same-mapped}
-use Rattle.logical_paths.specs.KeyedViews.{IsKeyedView, IsViewOver}
+use Rattle.logical_paths.specs.KeyedViews.{IsKeyedView, IsViewOver, IsFileOver, IsKeyedFile, IsKeyedJoin, IsPartOver}
 use Rattle.library_paths.specs.AllPaths.{all_paths, count_in}
 use Rattle.library_paths.proofs.BaseLemmas.{AllAlike, AreAlike, all-alike-status}
 use Rattle.library_paths.proofs.NameLemmas.{each-named}
@@ -26,6 +26,11 @@ use Rattle.library_parts.specs.Indexed.{AreSameBasesBy, AreViewsBeside, IsIndexe
 use Rattle.lawful_states.proofs.BaseLemmas.{IsKept, Keeps-status, kept-each}
 use Rattle.library_parts.proofs.IndexPaths.{FilesStay}
 use Rattle.library_parts.proofs.IndexShared.{IsIndexed-files, opens-stay}
+use Rattle.dds_logical.specs.declared.join_views.JoinView.{JoinView}
+use Rattle.dds_logical.specs.declared.join_views.JoinedFile.{JoinedFile}
+use Rattle.record_fmt.specs.Layout.{IsLaidOut}
+use Rattle.logical_paths.specs.Steps.{shown_in_join}
+use Rattle.join_records.proofs.SameLemmas.{same-linked}
 
 -- ---- files whose bases are what they were
 
@@ -50,9 +55,21 @@ views-keyed : (bases other : Bases) (views : List View) → AreSameBases bases o
 views-keyed bases other [] same all = tt
 views-keyed bases other (view ∷ views) same all = (subst (λ (b : Base). IsKeyedView b.fields view) same.0 all.0, views-keyed bases other views same.1 all.1)
 
+files-keyed : (bases other : Bases) (files : List JoinedFile) → AllByRecursion (λ name. bases name ≡ other name) (map (λ joined. joined.file) files) → AllByRecursion (IsFileOver bases) files
+    → AllByRecursion (IsFileOver other) files
+files-keyed bases other [] same all = tt
+files-keyed bases other (joined ∷ files) same all = (subst (λ (b : Base). IsKeyedFile b.fields joined) same.0 all.0, files-keyed bases other files same.1 all.1)
+
+join-keyed : (bases other : Bases) (view : JoinView) → AreSameBases bases other (Join view) → IsKeyedJoin bases view → IsKeyedJoin other view
+join-keyed bases other view same is = record {
+  laid = subst (λ (b : Base). IsLaidOut b.fields) same.0 is.laid;
+  parts = subst (λ (b : Base). AllByRecursion (IsPartOver b.fields (shown_in_join view.fields)) view.keys.parts) same.0 is.parts;
+  few = is.few;
+  secondaries = files-keyed bases other view.secondaries same.1 is.secondaries;
+}
+
 view-alike : (bases other : Bases) (spec : LogicalSpec) → AreSameBases bases other spec → IsView bases spec → IsView other spec
 view-alike bases other (Simple view) same is = record {
-  unjoined = tt;
   some = is.some;
   several = is.several;
   keyed = subst (λ (b : Base). IsKeyedView b.fields view) same.0 is.keyed;
@@ -60,9 +77,9 @@ view-alike bases other (Simple view) same is = record {
   rises = is.rises;
   formats = is.formats;
   bytes = is.bytes;
+  linked = tt;
 }
 view-alike bases other (Multi views) same is = record {
-  unjoined = tt;
   some = is.some;
   several = is.several;
   keyed = record { each = views-keyed bases other views same is.keyed.each; few = is.keyed.few; match = is.keyed.match };
@@ -70,8 +87,18 @@ view-alike bases other (Multi views) same is = record {
   rises = is.rises;
   formats = is.formats;
   bytes = is.bytes;
+  linked = tt;
 }
-view-alike bases other (Join view) same is = absurd is.unjoined
+view-alike bases other (Join view) same is = record {
+  some = is.some;
+  several = is.several;
+  keyed = join-keyed bases other view same is.keyed;
+  mapped = tt;
+  rises = is.rises;
+  formats = is.formats;
+  bytes = is.bytes;
+  linked = same-linked bases other (Join view) same is.linked;
+}
 
 pub beside-alike : (files others : Named FileState) (spec : FileSpec) → AreAlike (bases_in others) (bases_in files) spec → IsViewBeside files spec → IsViewBeside others spec
 beside-alike files others (PhysicalFile spec) alike is = tt

@@ -55,3 +55,12 @@ pub mod UniqueOver
 pub mod FreePaths
 pub mod NewRecords
 pub mod FilledLemmas
+pub mod ManyAttached
+pub mod JoinedUnique
+pub mod MadeLemmas
+pub mod JoinReads
+pub mod RowsOver
+pub mod JoinFound
+pub mod ShownRows
+pub mod NoteRows
+pub mod DepositLemmas

@@ -18,7 +18,7 @@ use Rattle.file_model.specs.Views.{view_of}
 use Rattle.key_order.specs.KeyFields.{AreBytes}
 use Rattle.key_order.proofs.ViewLemmas.{view-bytes}
 use Rattle.logical_model.specs.Bases.{FileSpec, PhysicalFile, LogicalFile}
-use Rattle.logical_model.specs.FilePaths.{is_over, logical_paths, view_format, views_path}
+use Rattle.logical_model.specs.FilePaths.{is_over, logical_paths, view_format, views_path, primary_path}
 use Rattle.member_slots.specs.declared.slot.Slot.{Slot}
 use Rattle.member_slots.specs.declared.slot.Slot.TheVariants.{Live, Deleted}
 use Rattle.member_slots.specs.Member.{FitsSlot}
@@ -53,6 +53,8 @@ use Rattle.library_parts.proofs.IndexLaws.{laws}
 use Rattle.library_parts.proofs.IndexLooks.{bases-have, each-kept, fields-are, records-of, takes-slot, takes-stood, view-of}
 use Rattle.library_parts.proofs.IndexPaths.{IsOfMember, IsOfOwner, changes-all, kept-of}
 use Rattle.library_parts.proofs.KeyLemmas.{asked-there}
+use Rattle.logical_paths.specs.Steps.{shown_in_join}
+use Rattle.library_parts.proofs.JoinedUnique.{join-unique}
 
 or-none : (b : Bool) → (b || false) ≡ true → b ≡ true
 or-none true h = refl
@@ -161,7 +163,20 @@ module _ (parts : LibraryParts) (member rrn : ℕ) (image : List ℕ) (orders : 
           let both = both-true view.keys.unique (is_over member whole) passes in
           (path-kept name whole format among both.0 refl (over-one member format (format ∷ []) refl both.1), tt)
   logical-kept name file here (Multi views) is its = tt
-  logical-kept name file here (Join view) is its = absurd its.unjoined
+  logical-kept name file here (Join view) is its =
+      subst (λ (ps : List PathSpec). AllByRecursion (IsKeptOver member paths) (map (λ (path : PathSpec). record { file = name; path = path }) ps)) (sym (join-unique (bases_in s.files) view member))
+      (by (view.keys.unique && is_over member (primary_path (bases_in s.files) view)) refl)
+    where
+      by : (b : Bool) → (view.keys.unique && is_over member (primary_path (bases_in s.files) view)) ≡ b
+          → AllByRecursion (IsKeptOver member paths) (map (λ (path : PathSpec). record { file = name; path = path }) (cond b (primary_path (bases_in s.files) view ∷ []) []))
+      by false fails = tt
+      by true passes =
+          let whole = primary_path (bases_in s.files) view in
+          let format = path_format (bases_in s.files view.primary).member every_record (shown_in_join view.fields) view.keys.parts in
+          let among = paths-contain s.files name file whole here
+          (subst (λ (f : FileSpec). Contains (paths_by s.files file.members f) whole) (sym is) (zero, omega arith, refl)) in
+          let both = both-true view.keys.unique (is_over member whole) passes in
+          (path-kept name whole format among both.0 refl (over-one member format (format ∷ []) refl both.1), tt)
 
   file-kept : (name : List ℕ) (file : FileState) → named name parts.state.files ≡ Some file
       → AllByRecursion (IsKeptOver member parts.room.paths.paths) (uniques_by file.spec (memory_of parts.state) member (name, file))

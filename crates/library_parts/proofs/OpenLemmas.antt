@@ -10,7 +10,7 @@ use Rattle.file_model.specs.FilePaths.{key_parts, physical_path}
 use Rattle.file_model.specs.Positions.{Start}
 use Rattle.logical_model.specs.Bases.{FileSpec, PhysicalFile, LogicalFile}
 use Rattle.logical_model.specs.Formats.{has_key}
-use Rattle.logical_model.specs.FilePaths.{views_path}
+use Rattle.logical_model.specs.FilePaths.{views_path, primary_path}
 use Rattle.member_slots.specs.Members.{Numbered, NumberedMembers, item_at}
 use Rattle.open_position.specs.OpenStand.{OpenStand}
 use Rattle.path_set.specs.KeptPaths.{AreShared, KeptPath, NumberedPaths}
@@ -19,7 +19,7 @@ use Rattle.library_paths.specs.AllPaths.{AreKeptFor, all_paths, paths_by}
 use Rattle.library_paths.proofs.KeptLemmas.{kept-once}
 use Rattle.library_paths.proofs.NumberLemmas.{any-at}
 use Rattle.library_paths.proofs.OwnerLemmas.{member-path, paths-contain}
-use Rattle.job_table.specs.Opens.{IsNewReads, order_by}
+use Rattle.job_table.specs.Opens.{IsNewReads, join_by, order_by, rows_in}
 use Rattle.job_table.specs.declared.reads.OpenReads.{OpenReads}
 use Rattle.library_model.specs.Named.{named}
 use Rattle.library_model.specs.declared.requests.OpenFile.{OpenFile}
@@ -28,11 +28,12 @@ use Rattle.library_steps.specs.Opens.{new_open, first_of}
 use Rattle.library_steps.specs.Records.{is_file_path}
 use Rattle.library_steps.specs.State.{FileState}
 use Rattle.library_parts.specs.Finds.{OpensMembers, OpensBy}
-use Rattle.library_parts.specs.Indexed.{AreViews, IsUnjoined, IsView, IsViewBeside, ReadsBy, ReadsFile, path_by}
+use Rattle.library_parts.specs.Indexed.{AreViews, IsView, IsViewBeside, ReadsBy, ReadsFile, path_by, ReadsRowsBy}
 use Rattle.library_parts.specs.Parts.{LibraryParts}
 use Rattle.library_parts.specs.Reads.{IsNumberOf, MayReadSo, ReadsFor, ReadsNew}
 use Rattle.library_parts.proofs.IndexPaths.{any-both}
-use Rattle.library_parts.proofs.FindLemmas.{unjoined-of, view-of}
+use Rattle.library_parts.proofs.FindLemmas.{view-of}
+use Rattle.job_table.specs.declared.reads.OpenRows.{OpenRows}
 
 -- ---- the number of a kept path
 
@@ -85,9 +86,9 @@ module _ (parts : LibraryParts) (shared : AreShared parts.room.paths.paths) (are
     both-are true b h = h
     both-are false b h = absurd cc
 
-    kept-own : (spec : FileSpec) → file.spec ≡ spec → IsUnjoined spec → OpensBy parts.state.files members file spec
+    kept-own : (spec : FileSpec) → file.spec ≡ spec → OpensBy parts.state.files members file spec
         → IfSome (path_by (bases_in parts.state.files) (is_file_path args.access_path && has_key spec) (first_of members) spec) (λ path. IsThere path parts.room.paths.paths)
-    kept-own (PhysicalFile spec) is unjoined has = by (is_file_path args.access_path && has_key (PhysicalFile spec)) refl
+    kept-own (PhysicalFile spec) is has = by (is_file_path args.access_path && has_key (PhysicalFile spec)) refl
       where
         by : (b : Bool) → (is_file_path args.access_path && has_key (PhysicalFile spec)) ≡ b
             → IfSome (if b then Some (physical_path (first_of members) spec.format.fields spec.keys) else None) (λ path. IsThere path parts.room.paths.paths)
@@ -96,27 +97,29 @@ module _ (parts : LibraryParts) (shared : AreShared parts.room.paths.paths) (are
             (member-path spec file.members (first_of members) (both-are (is_file_path args.access_path) (has_key (PhysicalFile spec)) keyed)
             (subst (λ (ms : List ℕ). has_number (first_of ms) file.members ≡ true) (sym has.1) has.2))
         by false keyed = tt
-    kept-own (LogicalFile (Simple view)) is unjoined all =
+    kept-own (LogicalFile (Simple view)) is all =
         contained (views_path (bases_in parts.state.files) view.keys.unique (view ∷ [])) (LogicalFile (Simple view)) is (zero, omega arith, refl)
-    kept-own (LogicalFile (Multi views)) is unjoined all =
+    kept-own (LogicalFile (Multi views)) is all =
         contained (views_path (bases_in parts.state.files) false views) (LogicalFile (Multi views)) is (zero, omega arith, refl)
-    kept-own (LogicalFile (Join view)) is unjoined all = absurd unjoined
+    kept-own (LogicalFile (Join view)) is all =
+        contained (primary_path (bases_in parts.state.files) view) (LogicalFile (Join view)) is (zero, omega arith, refl)
 
     -- so it reads by the file's path, or in arrival order
     pub new-reads : (spec : FileSpec) → file.spec ≡ spec → (reads : OpenReads)
-        → ReadsNew args.commit parts.room.paths.paths (path_by (bases_in parts.state.files) (is_file_path args.access_path && has_key spec) (first_of members) spec) reads → ReadsFor parts args members reads
-    new-reads spec is reads new =
-        let unjoined : IsUnjoined spec = subst IsUnjoined is (unjoined-of parts.state.files args.file file views here) in
+        → ReadsNew args.commit parts.room.paths.paths (path_by (bases_in parts.state.files) (is_file_path args.access_path && has_key spec) (first_of members) spec) reads
+        → ReadsRowsBy (bases_in parts.state.files) parts.room.paths.paths spec (join_by reads.rows) → ReadsFor parts args members reads
+    new-reads spec is reads new rows =
         let its : OpensBy parts.state.files members file spec =
         subst (OpensBy parts.state.files members file) is (subst (λ (o : Option FileState). OpensMembers parts.state.files members o) here opens) in
         let read : ReadsBy parts.room.paths.paths (path_by (bases_in parts.state.files) (is_file_path args.access_path && has_key spec) (first_of members) spec) (order_by 0 reads) =
-        new-by args.commit parts.room.paths.paths (path_by (bases_in parts.state.files) (is_file_path args.access_path && has_key spec) (first_of members) spec) reads (kept-own spec is unjoined its) new in
+        new-by args.commit parts.room.paths.paths (path_by (bases_in parts.state.files) (is_file_path args.access_path && has_key spec) (first_of members) spec) reads (kept-own spec is its) new in
         record {
           start = new.start;
           order =
               subst (ReadsFile (bases_in parts.state.files) parts.room.paths.paths (new_open args 0 members) (order_by 0 reads)) (sym here) (
                 subst (λ (s : FileSpec). ReadsBy parts.room.paths.paths (path_by (bases_in parts.state.files) (is_file_path args.access_path && has_key s) (first_of members) s) (order_by 0 reads)) (sym is) read,
                 subst (λ (o : Option FileState). MayReadSo args o) here so,
+                subst (λ (s : FileSpec). ReadsRowsBy (bases_in parts.state.files) parts.room.paths.paths s (join_by reads.rows)) (sym is) rows,
               );
         }
 
@@ -125,25 +128,30 @@ module _ (parts : LibraryParts) (shared : AreShared parts.room.paths.paths) (are
     view-there spec is = subst (IsViewBeside parts.state.files) is (view-of parts.state.files args.file file views here)
 
 -- what holds of a value that is given, by what is known of it
-pub if-ok : {A E : Type 0} (P Q : A → Type 0) (result : Result A E) → ((a : A) → P a → Q a) → IfOk result P → IfOk result Q
-if-ok P Q (Ok a) so p = so a p
-if-ok P Q (Err e) so p = tt
+pub if-ok-both : {A E : Type 0} (P Q R : A → Type 0) (result : Result A E) → ((a : A) → P a → Q a → R a) → IfOk result P → IfOk result Q → IfOk result R
+if-ok-both P Q R (Ok a) so p q = so a p q
+if-ok-both P Q R (Err e) so p q = tt
 
 -- the position of a new open, whatever its formats are
 pub new-position : (commit : Bool) (formats : List (List KeyPart)) (reads : OpenReads) → reads.position ≡ record { position = Start; boundary = Start; formats = formats; marks = commit }
-    → IsNewReads commit reads
-new-position commit formats reads is =
-    is ∙ (λ i. record { position = Start; boundary = Start; formats = (sym (ap (λ (p : OpenStand). p.formats) is)) i; marks = commit })
+    → reads.rows ≡ None → IsNewReads commit reads
+new-position commit formats reads is rows =
+    (is ∙ (λ i. record { position = Start; boundary = Start; formats = (sym (ap (λ (p : OpenStand). p.formats) is)) i; marks = commit }), ap rows_in rows)
 
 -- by a path
 pub new-by-path : (commit : Bool) (paths : NumberedPaths) (path : PathSpec) (reads : OpenReads) → IsNumberOf path reads.path paths
-    → reads.position ≡ record { position = Start; boundary = Start; formats = map (λ format. format.key) path.formats; marks = commit } → ReadsNew commit paths (Some path) reads
-new-by-path commit paths path reads number position = record {
-  start = new-position commit (map (λ format. format.key) path.formats) reads position;
+    → reads.position ≡ record { position = Start; boundary = Start; formats = map (λ format. format.key) path.formats; marks = commit } → reads.rows ≡ None → ReadsNew commit paths (Some path) reads
+new-by-path commit paths path reads number position rows = record {
+  start = new-position commit (map (λ format. format.key) path.formats) reads position rows;
   by = (number, ap (λ (p : OpenStand). p.formats) position);
 }
 
+-- it reads by rows too
+pub new-with-rows : (commit : Bool) (paths : NumberedPaths) (path : PathSpec) (reads : OpenReads) (rows : Option OpenRows) → rows_in rows ≡ Start → ReadsNew commit paths (Some path) reads
+    → ReadsNew commit paths (Some path) (record { path = reads.path; position = reads.position; rows = rows })
+new-with-rows commit paths path reads rows start new = record { start = (new.start.0, start); by = new.by }
+
 -- in arrival order
 pub new-in-arrival : (commit : Bool) (paths : NumberedPaths) (reads : OpenReads) → reads.path ≡ None → reads.position ≡ record { position = Start; boundary = Start; formats = [] ∷ []; marks = commit }
-    → ReadsNew commit paths None reads
-new-in-arrival commit paths reads path position = record { start = new-position commit ([] ∷ []) reads position; by = (path, ap (λ (p : OpenStand). p.formats) position) }
+    → reads.rows ≡ None → ReadsNew commit paths None reads
+new-in-arrival commit paths reads path position rows = record { start = new-position commit ([] ∷ []) reads position rows; by = (path, ap (λ (p : OpenStand). p.formats) position) }

@@ -43,7 +43,7 @@ use Rattle.library_steps.specs.LogicalFiles.{bases_in}
 use Rattle.library_steps.specs.Opens.{first_of}
 use Rattle.library_steps.specs.Records.{is_file_path, is_keyed}
 use Rattle.library_steps.specs.State.{FileState, OpenState, JobState, job_at, or_new}
-use Rattle.library_parts.specs.Indexed.{AreOfBytes, HasBytes, IsByPath, IsReadSo, IsUnjoined, MemberHasBytes, ReadsBy, ReadsFile, ReadsIn, OpensRead, path_by, path_read, IsIndexed}
+use Rattle.library_parts.specs.Indexed.{AreOfBytes, HasBytes, IsByPath, IsReadSo, MemberHasBytes, ReadsBy, ReadsFile, ReadsIn, OpensRead, path_by, path_read, IsIndexed, ReadsRowsBy}
 use Rattle.lawful_states.specs.Lawful.{HoldsValues, IsThere}
 use Rattle.library_parts.specs.Reads.{formats_by, formats_read, has_positions}
 use Rattle.lawful_states.proofs.BaseLemmas.{some-of}
@@ -90,10 +90,10 @@ reads-named files members jobs orders moves kept number name opened order indexe
 
 -- by whatever number it goes
 pub reads-renumbered : (bases : Bases) (paths : NumberedPaths) (opened : OpenState) (order other : OpenOrder) (file : Option FileState) → other.path ≡ order.path → other.formats ≡ order.formats
-    → ReadsFile bases paths opened order file
+    → other.join ≡ order.join → ReadsFile bases paths opened order file
     → ReadsFile bases paths opened other file
-reads-renumbered bases paths opened order other None path formats reads = reads
-reads-renumbered bases paths opened order other (Some file) path formats reads = (by (path_read bases file opened) reads.0, reads.1)
+reads-renumbered bases paths opened order other None path formats join reads = reads
+reads-renumbered bases paths opened order other (Some file) path formats join reads = (by (path_read bases file opened) reads.0, reads.1, subst (ReadsRowsBy bases paths file.spec) (sym join) reads.2)
   where
     by : (o : Option PathSpec) → ReadsBy paths o order → ReadsBy paths o other
     by None is = record { path = path ∙ is.path; formats = formats ∙ is.formats }
@@ -117,12 +117,12 @@ no-parts (p ∷ ps) none = let low : suc (length ps) ≤ 0 = ltb-false 0 (suc (l
 abbrev pub own_parts : (keyed : Bool) → FileSpec → List KeyPart
 own_parts keyed spec = if keyed then parts_in spec else []
 
--- a file of one format
+-- a file of one format, or a join, which is read by the key of its primary file
 abbrev pub HasOneFormat : FileSpec → Type 0
 HasOneFormat (PhysicalFile spec) = Unit {0}
 HasOneFormat (LogicalFile (Simple view)) = Unit {0}
 HasOneFormat (LogicalFile (Multi views)) = ⊥
-HasOneFormat (LogicalFile (Join view)) = ⊥
+HasOneFormat (LogicalFile (Join view)) = Unit {0}
 
 pub formats-are : (bases : Bases) (file : FileState) (opened : OpenState) → HasOneFormat file.spec → IsReadSo (is_file_path opened.access_path) file.spec
     → formats_read bases file opened ≡ key_parts 0 (own_parts (is_keyed file opened) file.spec) ∷ []
@@ -147,7 +147,9 @@ formats-are bases file opened one so = kind file.spec one so
         logical view.keys.parts (nat_lt 0 (length view.keys.parts)) refl
         ∙ ap (λ (a : Bool). key_parts 0 (own_parts (a && has_key (LogicalFile (Simple view))) (LogicalFile (Simple view))) ∷ []) (sym so)
     kind (LogicalFile (Multi views)) one so = absurd one
-    kind (LogicalFile (Join view)) one so = absurd one
+    kind (LogicalFile (Join view)) one so =
+        logical view.keys.parts (nat_lt 0 (length view.keys.parts)) refl
+        ∙ ap (λ (a : Bool). key_parts 0 (own_parts (a && has_key (LogicalFile (Join view))) (LogicalFile (Join view))) ∷ []) (sym so)
 
 -- of several formats, in their order
 pub keys-of-views : (bases : Bases) (views : List View) → map (λ (f : PathFormat). f.key) (map (view_format bases) views) ≡ map (λ (view : View). key_parts 0 view.keys.parts) views
@@ -163,9 +165,9 @@ has-parts : (ps : List KeyPart) → has_positions (key_parts 0 ps ∷ []) ≡ na
 has-parts ps = ap (λ (qs : List KeyPart). nat_lt 0 (length qs)) (merged-one (key_parts 0 ps)) ∙ ap (λ (n : ℕ). nat_lt 0 n) (parts-length ps 0)
 
 -- it reads by a key where it has such positions
-pub reads-keyed : (bases : Bases) (file : FileState) (opened : OpenState) → IsUnjoined file.spec → IsReadSo (is_file_path opened.access_path) file.spec
+pub reads-keyed : (bases : Bases) (file : FileState) (opened : OpenState) → IsReadSo (is_file_path opened.access_path) file.spec
     → has_positions (formats_read bases file opened) ≡ is_keyed file opened
-reads-keyed bases file opened unjoined so = kind file.spec refl unjoined
+reads-keyed bases file opened so = kind file.spec refl
   where
     by : (b : Bool) → is_keyed file opened ≡ b → nat_lt 0 (length (own_parts b file.spec)) ≡ b
     by true keyed = both-are (is_file_path opened.access_path) (has_key file.spec) keyed
@@ -181,11 +183,11 @@ reads-keyed bases file opened unjoined so = kind file.spec refl unjoined
         ∙ ap has_key (sym is)
         ∙ ap (λ (a : Bool). a && has_key file.spec) (sym (subst (IsReadSo (is_file_path opened.access_path)) is so))
 
-    kind : (spec : FileSpec) → file.spec ≡ spec → IsUnjoined spec → has_positions (formats_read bases file opened) ≡ is_keyed file opened
-    kind (PhysicalFile spec) is unjoined = single (subst HasOneFormat (sym is) tt)
-    kind (LogicalFile (Simple view)) is unjoined = single (subst HasOneFormat (sym is) tt)
-    kind (LogicalFile (Multi views)) is unjoined = several views is
-    kind (LogicalFile (Join view)) is unjoined = absurd unjoined
+    kind : (spec : FileSpec) → file.spec ≡ spec → has_positions (formats_read bases file opened) ≡ is_keyed file opened
+    kind (PhysicalFile spec) is = single (subst HasOneFormat (sym is) tt)
+    kind (LogicalFile (Simple view)) is = single (subst HasOneFormat (sym is) tt)
+    kind (LogicalFile (Multi views)) is = several views is
+    kind (LogicalFile (Join view)) is = single (subst HasOneFormat (sym is) tt)
 
 -- ---- records
 
@@ -235,7 +237,7 @@ pub record IsReadBy (members : NumberedMembers) (kept : KeptPaths) (order : Open
   pub over : IsPathOver order.formats spec members list
 
 -- a path's number finds it
-found-own : (paths : NumberedPaths) → AllPairs (λ (former later : Numbered KeptPath). former.number < later.number) paths → All (λ (p : Numbered KeptPath). item_at p.number paths ≡ Some p.item) paths
+pub found-own : (paths : NumberedPaths) → AllPairs (λ (former later : Numbered KeptPath). former.number < later.number) paths → All (λ (p : Numbered KeptPath). item_at p.number paths ≡ Some p.item) paths
 found-own [] ascend k d low = absurd (omega (arith, low))
 found-own (p ∷ paths) ascend zero d low = cond-true (p.number == p.number) (Some p.item) (item_at p.number paths) (let e : (p.number == p.number) ≡ true = grind (arith, nat_tests) in e)
 found-own (p ∷ paths) ascend (suc k) d low =
@@ -245,10 +247,10 @@ found-own (p ∷ paths) ascend (suc k) d low =
     ∙ found-own paths (λ i j e lt within. ascend (suc i) (suc j) e (omega (arith, lt)) (omega (arith, within))) k d (omega (arith, low))
 
 -- what is known of each kept path
-record IsFound (members : NumberedMembers) (kept : KeptPaths) (p : Numbered KeptPath) : Type 0 where
-  here : item_at p.number kept.paths ≡ Some p.item
-  room : IsSome (item_at p.number kept.rooms)
-  entries : p.item.entries ≡ entries_of p.item.spec members
+pub record IsFound (members : NumberedMembers) (kept : KeptPaths) (p : Numbered KeptPath) : Type 0 where
+  pub here : item_at p.number kept.paths ≡ Some p.item
+  pub room : IsSome (item_at p.number kept.rooms)
+  pub entries : p.item.entries ≡ entries_of p.item.spec members
 
 pub reads-path : (specs : List PathSpec) (members : NumberedMembers) (kept : KeptPaths) (order : OpenOrder) (spec : PathSpec) → AreShared kept.paths → HaveRooms kept → AreKeptFor specs members kept.paths
     → IsInBytes spec members → (most : ℕ) × All (HasKeysWithin most members) spec.formats → IsByPath kept.paths spec order → IsReadBy members kept order spec

@@ -1,5 +1,5 @@
 -- The key that a request gives and the place where it sets a position, by the positions of the open's key.
-use Rattle.std.proofs.Common.{◌≡◌, ℕ, ◌+◌, ◌||◌, nat_lt, not, Bool, true, false, if◌then◌else◌, List, [], ◌∷◌, length, Option, Some, None, Result, Ok, Err, refl, sym, ap, subst, ◌∙◌, map}
+use Rattle.std.proofs.Common.{◌≡◌, ℕ, ◌+◌, ◌||◌, nat_lt, not, Bool, true, false, if◌then◌else◌, List, [], ◌∷◌, length, Option, Some, None, Result, Ok, Err, refl, sym, ap, subst, ◌∙◌, map, ◌&&◌}
 use Rattle.library_parts.proofs.AlikeParts.{views-fault, views-given}
 use Rattle.dds_logical.specs.declared.views.View.{View}
 use Rattle.std.specs.Prelude.{is_ok}
@@ -16,17 +16,17 @@ use Rattle.file_model.specs.KeyOrder.{KeyValue, given_key, merged_parts}
 use Rattle.file_model.specs.Paths.{PathEntry}
 use Rattle.file_model.specs.Positions.{Bound, KeyBound, NumberBound, Position, Start, End}
 use Rattle.logical_model.specs.Bases.{Bases, FileSpec, PhysicalFile, LogicalFile}
-use Rattle.logical_model.specs.Formats.{parts_in}
-use Rattle.logical_model.specs.Readings.{has_numbers}
+use Rattle.logical_model.specs.Formats.{parts_in, has_key}
+use Rattle.logical_model.specs.Readings.{has_numbers, join_in}
 use Rattle.key_order.specs.GivenValues as given
 use Rattle.library_model.specs.declared.replies.Reply.{Reply}
 use Rattle.library_model.specs.declared.replies.Reply.TheVariants.{BadValue, WrongOpen}
 use Rattle.library_model.specs.declared.requests.Limit.{Limit}
 use Rattle.library_model.specs.declared.requests.Limit.TheVariants as limits
-use Rattle.open_position.specs.Reads.{side_of}
+use Rattle.open_position.specs.Reads.{side_of, IsStandAt, stood}
 use Rattle.open_position.specs.declared.position.Side.{Side}
 use Rattle.physical_paths.proofs.PositionLemmas.{same-given_key, same-key_fault}
-use Rattle.job_table.specs.Opens.{OpenOrder, AllOfNumber}
+use Rattle.job_table.specs.Opens.{OpenOrder, AllOfNumber, JoinOrder}
 use Rattle.library_model.specs.Named.{Named}
 use Rattle.library_steps.specs.Reads.{bound_asked}
 use Rattle.library_steps.specs.Records as steps
@@ -35,9 +35,15 @@ use Rattle.library_steps.specs.Refusals.{◌>>=◌, OpenedFile}
 use Rattle.library_steps.specs.State.{FileState, OpenState}
 use Rattle.library_parts.specs.declared.stop.Stop.{Stop}
 use Rattle.library_parts.specs.declared.stop.Stop.TheVariants.{NoMemory, Refused}
-use Rattle.library_parts.specs.Indexed.{IsReadSo, IsUnjoined}
-use Rattle.library_parts.specs.Reads.{CanStandIn, GivesKey, HasKeyOf, MayHaveKey, ReadsSo, Stands, formats_read, parts_read, refusal, stood_at, TakesNumbers}
+use Rattle.library_parts.specs.Indexed.{IsReadSo, ReadsRowsBy, path_by}
+use Rattle.library_parts.specs.Reads.{CanStandIn, GivesKey, HasKeyOf, MayHaveKey, ReadsSo, Stands, formats_read, parts_read, refusal, stood_at, TakesNumbers, CanStandAmong, formats_by}
 use Rattle.library_parts.proofs.OpenLooks.{formats-are, merged-one, own_parts, HasOneFormat, formats-of-views}
+use Rattle.dds_logical.specs.declared.join_views.JoinView.{JoinView}
+use Rattle.open_position.specs.declared.position.StandAt.{StandAt}
+use Rattle.join_position.specs.RowStand as rows
+use Rattle.path_set.specs.KeptPaths.{NumberedPaths}
+use Rattle.job_table.specs.OpenChanges.{CanStand, IsStood}
+use Rattle.library_steps.specs.Opens.{first_of}
 
 -- ---- two definitions of what is wrong with given values are the same
 
@@ -63,8 +69,8 @@ record IsByKey (bases : Bases) (file : FileState) (opened : OpenState) : Type 0 
   faults : (values : List Value) → steps.key_fault (parts_in file.spec) values ≡ given.key_fault (parts_read bases file opened) values
   given_is : (values : List Value) → given_key (parts_in file.spec) values ≡ given_key (parts_read bases file opened) values
 
-by-key : (bases : Bases) (file : FileState) (opened : OpenState) → IsUnjoined file.spec → IsReadSo (is_file_path opened.access_path) file.spec → is_keyed file opened ≡ true → IsByKey bases file opened
-by-key bases file opened unjoined so keyed = kind file.spec refl unjoined
+by-key : (bases : Bases) (file : FileState) (opened : OpenState) → IsReadSo (is_file_path opened.access_path) file.spec → is_keyed file opened ≡ true → IsByKey bases file opened
+by-key bases file opened so keyed = kind file.spec refl
   where
     single : HasOneFormat file.spec → IsByKey bases file opened
     single one =
@@ -86,11 +92,11 @@ by-key bases file opened unjoined so keyed = kind file.spec refl unjoined
           given_is = λ values. ap (λ (qs : List KeyPart). given_key qs values) own ∙ views-given views values ∙ ap (λ (qs : List KeyPart). given_key qs values) (sym parts);
         }
 
-    kind : (spec : FileSpec) → file.spec ≡ spec → IsUnjoined spec → IsByKey bases file opened
-    kind (PhysicalFile spec) is unjoined = single (subst HasOneFormat (sym is) tt)
-    kind (LogicalFile (Simple view)) is unjoined = single (subst HasOneFormat (sym is) tt)
-    kind (LogicalFile (Multi views)) is unjoined = several views is
-    kind (LogicalFile (Join view)) is unjoined = absurd unjoined
+    kind : (spec : FileSpec) → file.spec ≡ spec → IsByKey bases file opened
+    kind (PhysicalFile spec) is = single (subst HasOneFormat (sym is) tt)
+    kind (LogicalFile (Simple view)) is = single (subst HasOneFormat (sym is) tt)
+    kind (LogicalFile (Multi views)) is = several views is
+    kind (LogicalFile (Join view)) is = single (subst HasOneFormat (sym is) tt)
 
 -- a file in which a number says which record is meant has one format
 numbered-one : (spec : FileSpec) → has_numbers spec ≡ true → HasOneFormat spec
@@ -109,10 +115,10 @@ by-arrival bases file opened numbered so not_keyed =
 abbrev key_with : Bool → List KeyPart → List Value → Option RecordFault → Result (List KeyValue) Reply
 key_with keyed ps values fault = if keyed then key_or_fault ps values fault else Err WrongOpen
 
-asked-good : (bases : Bases) (file : FileState) (opened : OpenState) (values : List Value) → IsUnjoined file.spec → IsReadSo (is_file_path opened.access_path) file.spec → is_keyed file opened ≡ true
+asked-good : (bases : Bases) (file : FileState) (opened : OpenState) (values : List Value) → IsReadSo (is_file_path opened.access_path) file.spec → is_keyed file opened ≡ true
     → given.key_fault (parts_read bases file opened) values ≡ None → key_asked file opened values ≡ Ok (given_key (parts_read bases file opened) values)
-asked-good bases file opened values unjoined so keyed none =
-    let its = by-key bases file opened unjoined so keyed in
+asked-good bases file opened values so keyed none =
+    let its = by-key bases file opened so keyed in
     (λ i. key_with (keyed i) (parts_in file.spec) values (its.faults values i)) ∙ (λ i. key_or_fault (parts_in file.spec) values (none i))
     ∙ ap (λ (key : List KeyValue). Ok key) (its.given_is values)
 
@@ -120,9 +126,9 @@ some-bad : (fault : Option RecordFault) (reply : Reply) → refusal true fault �
 some-bad None reply h = absurd cc
 some-bad (Some bad) reply h = (bad, refl, let e : BadValue bad ≡ reply = cc in e)
 
-asked-bad : (bases : Bases) (file : FileState) (opened : OpenState) (values : List Value) (reply : Reply) → IsUnjoined file.spec → IsReadSo (is_file_path opened.access_path) file.spec
+asked-bad : (bases : Bases) (file : FileState) (opened : OpenState) (values : List Value) (reply : Reply) → IsReadSo (is_file_path opened.access_path) file.spec
     → refusal (is_keyed file opened) (given.key_fault (parts_read bases file opened) values) ≡ Some reply → key_asked file opened values ≡ Err reply
-asked-bad bases file opened values reply unjoined so refused = by (is_keyed file opened) refl
+asked-bad bases file opened values reply so refused = by (is_keyed file opened) refl
   where
     by : (b : Bool) → is_keyed file opened ≡ b → key_asked file opened values ≡ Err reply
     by false not_keyed =
@@ -130,29 +136,27 @@ asked-bad bases file opened values reply unjoined so refused = by (is_keyed file
         let same : WrongOpen ≡ reply = cc in
         ap (λ (k : Bool). key_with k (parts_in file.spec) values (steps.key_fault (parts_in file.spec) values)) not_keyed ∙ ap (λ (r : Reply). Err r) same
     by true keyed =
-        let its = by-key bases file opened unjoined so keyed in
+        let its = by-key bases file opened so keyed in
         let bad = some-bad (given.key_fault (parts_read bases file opened) values) reply (ap (λ (k : Bool). refusal k (given.key_fault (parts_read bases file opened) values)) (sym keyed) ∙ refused) in
         (λ i. key_with (keyed i) (parts_in file.spec) values (its.faults values i)) ∙ (λ i. key_or_fault (parts_in file.spec) values (bad.1 i)) ∙ ap (λ (r : Reply). Err r) bad.2
 
-pub gives-key : (bases : Bases) (file : FileState) (opened : OpenState) (values : List Value) (result : Result (List ℕ) Stop) → IsUnjoined file.spec
-    → IsReadSo (is_file_path opened.access_path) file.spec → HasKeyOf (is_keyed file opened) (parts_read bases file opened) values result → GivesKey bases file opened values result
-gives-key bases file opened values (Ok key) unjoined so has =
-    (given_key (parts_read bases file opened) values, asked-good bases file opened values unjoined so has.0 has.1.fits, has.1.stands)
-gives-key bases file opened values (Err NoMemory) unjoined so has = tt
-gives-key bases file opened values (Err (Refused reply)) unjoined so has = asked-bad bases file opened values reply unjoined so has
+pub gives-key : (bases : Bases) (file : FileState) (opened : OpenState) (values : List Value) (result : Result (List ℕ) Stop) → IsReadSo (is_file_path opened.access_path) file.spec → HasKeyOf (is_keyed file opened) (parts_read bases file opened) values result → GivesKey bases file opened values result
+gives-key bases file opened values (Ok key) so has =
+    (given_key (parts_read bases file opened) values, asked-good bases file opened values so has.0 has.1.fits, has.1.stands)
+gives-key bases file opened values (Err NoMemory) so has = tt
+gives-key bases file opened values (Err (Refused reply)) so has = asked-bad bases file opened values reply so has
 
 -- ---- where a position is set
 
 abbrev key-bound : (side : Bound → Position PathEntry) → Result (List KeyValue) Reply → Result (Position PathEntry) Reply
 key-bound side r = r >>= (λ key. Ok (side (KeyBound key)))
 
-pub stands-key : (bases : Bases) (its : OpenedFile) (values : List Value) (result : Result (Unit {0}) Stop) → IsUnjoined its.file.spec
-    → IsReadSo (is_file_path its.opened.access_path) its.file.spec → MayHaveKey (is_keyed its.file its.opened) (parts_read bases its.file its.opened) values result
+pub stands-key : (bases : Bases) (its : OpenedFile) (values : List Value) (result : Result (Unit {0}) Stop) → IsReadSo (is_file_path its.opened.access_path) its.file.spec → MayHaveKey (is_keyed its.file its.opened) (parts_read bases its.file its.opened) values result
     → Stands its (limits.Key values) result
-stands-key bases its values (Ok nothing) unjoined so may =
-    λ side. ap (λ (r : Result (List KeyValue) Reply). is_ok (key-bound side r)) (asked-good bases its.file its.opened values unjoined so may.0 may.1)
-stands-key bases its values (Err NoMemory) unjoined so may = absurd may
-stands-key bases its values (Err (Refused reply)) unjoined so may = λ side. ap (key-bound side) (asked-bad bases its.file its.opened values reply unjoined so may)
+stands-key bases its values (Ok nothing) so may =
+    λ side. ap (λ (r : Result (List KeyValue) Reply). is_ok (key-bound side r)) (asked-good bases its.file its.opened values so may.0 may.1)
+stands-key bases its values (Err NoMemory) so may = absurd may
+stands-key bases its values (Err (Refused reply)) so may = λ side. ap (key-bound side) (asked-bad bases its.file its.opened values reply so may)
 
 abbrev end_with : Bool → Position PathEntry → Result (Position PathEntry) Reply
 end_with keyed end = if keyed then Ok end else Err WrongOpen
@@ -196,7 +200,7 @@ end-is : (b : Bool) (end position : Position PathEntry) → end_with b end ≡ O
 end-is true end position h = cc
 end-is false end position h = absurd cc
 
-module _ (bases : Bases) (its : OpenedFile) (unjoined : IsUnjoined its.file.spec) (so : IsReadSo (is_file_path its.opened.access_path) its.file.spec) where
+module _ (bases : Bases) (its : OpenedFile) (so : IsReadSo (is_file_path its.opened.access_path) its.file.spec) where
   place-number : (side : Side) (rrn : ℕ) (position : Position PathEntry) → bound_asked its (side_of side) (limits.RecordNumber rrn) ≡ Ok position
       → IsPlace bases its side (limits.RecordNumber rrn) position
   place-number side rrn position is = by (is_keyed its.file its.opened) (has_numbers its.file.spec) refl refl is
@@ -215,7 +219,7 @@ module _ (bases : Bases) (its : OpenedFile) (unjoined : IsUnjoined its.file.spec
           → key-bound (side_of side) (key_or_fault (parts_in its.file.spec) values fault) ≡ Ok position → IsPlace bases its side (limits.Key values) position
       with-fault (Some fault) keyed none h = absurd cc
       with-fault None keyed none h =
-          let own = by-key bases its.file its.opened unjoined so keyed in
+          let own = by-key bases its.file its.opened so keyed in
           let e : side_of side (KeyBound (given_key (parts_in its.file.spec) values)) ≡ position = cc in
           record { can = sym (own.faults values) ∙ none; stood = ap (λ (key : List KeyValue). side_of side (KeyBound key)) (sym (own.given_is values)) ∙ e }
 
@@ -245,12 +249,72 @@ pub record IsPlaced (bases : Bases) (its : OpenedFile) (side : Side) (to : Limit
   pub is : bound_asked its (side_of side) to ≡ Ok position
   pub placed : IsPlace bases its side to position
 
-pub placed-there : (bases : Bases) (r : Result OpenedFile Reply) (asked its : OpenedFile) (side : Side) (to : Limit) → IsUnjoined its.file.spec
-    → IsReadSo (is_file_path its.opened.access_path) its.file.spec → r ≡ Ok asked → r ≡ Ok its → is_ok (bound_asked asked (side_of side) to) ≡ true → IsPlaced bases its side to
-placed-there bases r asked its side to unjoined so is also ok =
+pub placed-there : (bases : Bases) (r : Result OpenedFile Reply) (asked its : OpenedFile) (side : Side) (to : Limit) → IsReadSo (is_file_path its.opened.access_path) its.file.spec → r ≡ Ok asked → r ≡ Ok its → is_ok (bound_asked asked (side_of side) to) ≡ true → IsPlaced bases its side to
+placed-there bases r asked its side to so is also ok =
     let there = ok-is (bound_asked its (side_of side) to) (subst (λ (o : OpenedFile). is_ok (bound_asked o (side_of side) to) ≡ true) (found-same r asked its is also) ok) in
-    record { position = there.0; is = there.1; placed = is-place bases its unjoined so side to there.0 there.1 }
+    record { position = there.0; is = there.1; placed = is-place bases its so side to there.0 there.1 }
 
 -- what holds of the way in which the open reads holds of all of its number
 pub of-number : (number : ℕ) (order : OpenOrder) (P : OpenOrder → Type 0) (orders : Named OpenOrder) → AllOfNumber number (λ other. other ≡ order) orders → P order → AllOfNumber number P orders
 of-number number order P orders alone holds = λ k d low same. subst P (sym (alone k d low same)) holds
+
+-- ---- an open that stands there, of a join among its rows
+
+-- an open of a join reads by the positions of the key of its primary file
+pub joined-parts : (bases : Bases) (its : OpenedFile) (view : JoinView) → its.file.spec ≡ LogicalFile (Join view) → parts_read bases its.file its.opened ≡ key_parts 0 view.keys.parts
+joined-parts bases its view is =
+    ap (λ (spec : FileSpec). merged_parts (formats_by (path_by bases (is_file_path its.opened.access_path && has_key spec) (first_of its.opened.members) spec))) is ∙ merged-one (key_parts 0 view.keys.parts)
+
+module _ (bases : Bases) (paths : NumberedPaths) (its : OpenedFile) (order : OpenOrder) (side : Side) (to : Limit) (at : StandAt) (position : Position PathEntry)
+    (formats : formats_read bases its.file its.opened ≡ order.formats) (bound : bound_asked its (side_of side) to ≡ Ok position) (placed : IsPlace bases its side to position) where
+  -- a number is refused
+  no-number : (rrn : ℕ) → to ≡ limits.RecordNumber rrn → has_numbers its.file.spec ≡ false → ⊥
+  no-number rrn is none =
+      let refused : bound_asked its (side_of side) (limits.RecordNumber rrn) ≡ Err WrongOpen =
+      ap (number-bound (side_of side)) (number-refused (is_keyed its.file its.opened) (has_numbers its.file.spec) rrn WrongOpen (ap (λ (b : Bool). is_keyed its.file its.opened || not b) none ∙ or-true (is_keyed its.file its.opened)) refl) in
+      let asked : bound_asked its (side_of side) (limits.RecordNumber rrn) ≡ Ok position = subst (λ (l : Limit). bound_asked its (side_of side) l ≡ Ok position) is bound in
+      absurd cc
+    where
+      or-true : (b : Bool) → (b || true) ≡ true
+      or-true true = refl
+      or-true false = refl
+
+  among : (parts : List KeyPart) → parts_read bases its.file its.opened ≡ parts → has_numbers its.file.spec ≡ false → CanStandAmong parts to
+  among parts same none = by to refl placed.can
+    where
+      by : (l : Limit) → to ≡ l → CanStandIn (formats_read bases its.file its.opened) l → CanStandAmong parts l
+      by limits.LowValue is can = tt
+      by limits.HighValue is can = tt
+      by (limits.Key values) is can = subst (λ (ps : List KeyPart). given.key_fault ps values ≡ None) same can
+      by (limits.RecordNumber rrn) is can = absurd (no-number rrn is none)
+
+  module _ (can : (fs : List (List KeyPart)) → CanStandIn fs to → IsStandAt fs at) (rows_can : (ps : List KeyPart) → CanStandAmong ps to → rows.IsStandAt ps at)
+      (is_stood : (parts : List KeyPart) → stood side parts at ≡ stood_at side parts to) where
+    plain-can : (join : Option JoinOrder) → join ≡ None → CanStand join order.formats at
+    plain-can join none = subst (λ (j : Option JoinOrder). CanStand j order.formats at) (sym none) (can order.formats (subst (λ (fs : List (List KeyPart)). CanStandIn fs to) formats placed.can))
+
+    plain-is : (join : Option JoinOrder) → join ≡ None → IsStood None join side at order.formats position
+    plain-is join none =
+        subst (λ (j : Option JoinOrder). IsStood None j side at order.formats position) (sym none)
+        (is_stood (merged_parts order.formats) ∙ subst (λ (fs : List (List KeyPart)). stood_at side (merged_parts fs) to ≡ position) formats placed.stood)
+
+    kind-can : (spec : FileSpec) → its.file.spec ≡ spec → (join : Option JoinOrder) → ReadsRowsBy bases paths spec join → CanStand join order.formats at
+    kind-can (PhysicalFile spec) is join reads = plain-can join reads
+    kind-can (LogicalFile (Simple view)) is join reads = plain-can join reads
+    kind-can (LogicalFile (Multi views)) is join reads = plain-can join reads
+    kind-can (LogicalFile (Join view)) is None reads = absurd reads
+    kind-can (LogicalFile (Join view)) is (Some join) reads = rows_can join.parts (among join.parts (joined-parts bases its view is ∙ reads.parts) (ap has_numbers is))
+
+    kind-is : (spec : FileSpec) → its.file.spec ≡ spec → (join : Option JoinOrder) → ReadsRowsBy bases paths spec join → IsStood (join_in spec) join side at order.formats position
+    kind-is (PhysicalFile spec) is join reads = plain-is join reads
+    kind-is (LogicalFile (Simple view)) is join reads = plain-is join reads
+    kind-is (LogicalFile (Multi views)) is join reads = plain-is join reads
+    kind-is (LogicalFile (Join view)) is None reads = absurd reads
+    kind-is (LogicalFile (Join view)) is (Some join) reads =
+        is_stood join.parts ∙ subst (λ (ps : List KeyPart). stood_at side ps to ≡ position) (joined-parts bases its view is ∙ reads.parts) placed.stood
+
+    pub stand-can : ReadsRowsBy bases paths its.file.spec order.join → CanStand order.join order.formats at
+    stand-can reads = kind-can its.file.spec refl order.join reads
+
+    pub stand-is : ReadsRowsBy bases paths its.file.spec order.join → IsStood (join_in its.file.spec) order.join side at order.formats position
+    stand-is reads = kind-is its.file.spec refl order.join reads

@@ -199,10 +199,10 @@ formats-by paths None order reads = sym reads.formats
 formats-by paths (Some spec) order reads = sym reads.formats
 
 -- it reads by a key where it has such positions
-pub order-keyed : (bases : Bases) (paths : NumberedPaths) (file : FileState) (opened : OpenState) (order : OpenOrder) → IsUnjoined file.spec → IsReadSo (is_file_path opened.access_path) file.spec
+pub order-keyed : (bases : Bases) (paths : NumberedPaths) (file : FileState) (opened : OpenState) (order : OpenOrder) → IsReadSo (is_file_path opened.access_path) file.spec
     → ReadsBy paths (path_read bases file opened) order → has_positions order.formats ≡ is_keyed file opened
-order-keyed bases paths file opened order unjoined so reads =
-    ap has_positions (sym (formats-by paths (path_read bases file opened) order reads)) ∙ reads-keyed bases file opened unjoined so
+order-keyed bases paths file opened order so reads =
+    ap has_positions (sym (formats-by paths (path_read bases file opened) order reads)) ∙ reads-keyed bases file opened so
 
 no-parts : (ps : List KeyPart) → HasNoKey (key_parts 0 ps ∷ []) → ps ≡ []
 no-parts [] none = refl
@@ -417,12 +417,14 @@ found-live opened m hit wanted found live =
     subst (λ (n : ℕ). is_some (live_record (at_format n opened).member hit.rrn m) ≡ true) found.format
     (subst (λ (n : ℕ). is_some (live_record (at_format found.entry.format opened).member n m) ≡ true) found.rrn own)
 
--- an open reads by as many formats as it has members
-pub formats-many : (files : Named FileState) (paths : NumberedPaths) (file : FileState) (opened : OpenState) (order : OpenOrder) → named opened.file files ≡ Some file → IsUnjoined file.spec
+-- an open reads by no more formats than it has members
+pub formats-many : (files : Named FileState) (paths : NumberedPaths) (file : FileState) (opened : OpenState) (order : OpenOrder) → named opened.file files ≡ Some file
     → OpenHolds files opened → IsReadSo (is_file_path opened.access_path) file.spec → ReadsBy paths (path_read (bases_in files) file opened) order
-    → length order.formats ≡ length opened.members
-formats-many files paths file opened order here unjoined holds so reads =
-    ap length (sym (formats-by paths (path_read (bases_in files) file opened) order reads)) ∙ kind file.spec refl unjoined ∙ sym (members-many files file opened here unjoined holds)
+    → length order.formats ≤ length opened.members
+formats-many files paths file opened order here holds so reads =
+    let same : length order.formats ≡ length (format_names file.spec) = ap length (sym (formats-by paths (path_read (bases_in files) file opened) order reads)) ∙ kind file.spec refl in
+    let many = members-many files file opened here holds in
+    omega (arith, same, many)
   where
     single : HasOneFormat file.spec → length (formats_read (bases_in files) file opened) ≡ 1
     single one = ap length (formats-are (bases_in files) file opened one so)
@@ -431,9 +433,9 @@ formats-many files paths file opened order here unjoined holds so reads =
     many [] = refl
     many (view ∷ views) = ap suc (many views)
 
-    kind : (spec : FileSpec) → file.spec ≡ spec → IsUnjoined spec → length (formats_read (bases_in files) file opened) ≡ length (format_names file.spec)
-    kind (PhysicalFile spec) is un = single (subst HasOneFormat (sym is) tt) ∙ sym (ap (λ (f : FileSpec). length (format_names f)) is)
-    kind (LogicalFile (Simple view)) is un = single (subst HasOneFormat (sym is) tt) ∙ sym (ap (λ (f : FileSpec). length (format_names f)) is)
-    kind (LogicalFile (Multi views)) is un =
+    kind : (spec : FileSpec) → file.spec ≡ spec → length (formats_read (bases_in files) file opened) ≡ length (format_names file.spec)
+    kind (PhysicalFile spec) is = single (subst HasOneFormat (sym is) tt) ∙ sym (ap (λ (f : FileSpec). length (format_names f)) is)
+    kind (LogicalFile (Simple view)) is = single (subst HasOneFormat (sym is) tt) ∙ sym (ap (λ (f : FileSpec). length (format_names f)) is)
+    kind (LogicalFile (Multi views)) is =
         ap length (formats-of-views (bases_in files) file opened views is) ∙ many views ∙ sym (ap (λ (f : FileSpec). length (format_names f)) is)
-    kind (LogicalFile (Join view)) is un = absurd un
+    kind (LogicalFile (Join view)) is = single (subst HasOneFormat (sym is) tt) ∙ sym (ap (λ (f : FileSpec). length (format_names f)) is)

@@ -6,6 +6,7 @@ use Rattle.dds_logical.specs.declared.views.View.{View}
 use Rattle.dds_logical.specs.declared.views.LogicalSpec.{LogicalSpec}
 use Rattle.dds_logical.specs.declared.views.LogicalSpec.TheVariants.{Simple, Multi}
 use Rattle.logical_model.specs.Bases.{Bases, base_members, base_names}
+use Rattle.dds_logical.specs.declared.join_views.JoinedFile.{JoinedFile}
 
 take-suc : {X : Type 0} (xs : List X) (n : ℕ) (x : X) → slice_get xs n ≡ Some x → take (suc n) xs ≡ take n xs ++ x ∷ []
 take-suc {X = X} [] n x at = absurd cc
@@ -46,6 +47,11 @@ pub each-under : (bases : Bases) (views : List View) (place member : ℕ) (view 
     → slice_get (base_members bases (Multi views)) place ≡ Some member
 each-under bases views place member view at is =
     mapped-at (λ (name : List ℕ). (bases name).member) (map (λ (v : View). v.base) views) place view.base (mapped-at (λ (v : View). v.base) views place view at) ∙ ap Some (sym is)
+
+pub each-joined : (bases : Bases) (files : List JoinedFile) (place member : ℕ) (joined : JoinedFile) → slice_get files place ≡ Some joined → member ≡ (bases joined.file).member
+    → slice_get (map (λ (name : List ℕ). (bases name).member) (map (λ (j : JoinedFile). j.file) files)) place ≡ Some member
+each-joined bases files place member joined at is =
+    mapped-at (λ (name : List ℕ). (bases name).member) (map (λ (j : JoinedFile). j.file) files) place joined.file (mapped-at (λ (j : JoinedFile). j.file) files place joined at) ∙ ap Some (sym is)
 
 -- one more that is asked
 pub any-more : (p : ℕ → Bool) (members : List ℕ) (n next member : ℕ) (here so_far : Bool) → next ≡ suc n → slice_get members n ≡ Some member → here ≡ p member → so_far ≡ list_any p (drop next members)

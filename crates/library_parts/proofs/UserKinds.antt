@@ -7,11 +7,6 @@ use Rattle.library_steps.specs.DeleteFile.{user_by}
 use Rattle.library_steps.specs.LogicalFiles.{bases_of}
 use Rattle.library_steps.specs.State.{Memory, FileState}
 use Rattle.library_steps.specs.Uses.{user_of_any, user_of_logical}
-use Rattle.library_parts.specs.Indexed.{IsUnjoined}
-
-pub view-unjoined : (spec : FileSpec) (view : LogicalSpec) → Some view ≡ logical_in spec → IsUnjoined spec → IsUnjoined (LogicalFile view)
-view-unjoined (PhysicalFile spec) view is unjoined = absurd cc
-view-unjoined (LogicalFile other) view is unjoined = let same : other ≡ view = cc in subst (λ (v : LogicalSpec). IsUnjoined (LogicalFile v)) same unjoined
 
 pub user-logical : (spec : FileSpec) (view : LogicalSpec) (name : List ℕ) (file : FileState) (m : Memory) → Some view ≡ logical_in spec
     → user_by spec name file m ≡ user_of_logical name (base_members (bases_of m) view) m

@@ -32,6 +32,12 @@ MayAllow (Ok nothing) wanted = wanted ≡ Ok true
 MayAllow (Err NoMemory) wanted = Unit {0}
 MayAllow (Err (Refused reply)) wanted = wanted ≡ Err reply
 
+-- the same of one that gives something
+abbrev pub MayAllowAny : {A : Type 0} → Result A Stop → Result Bool Reply → Type 0
+MayAllowAny (Ok given) wanted = wanted ≡ Ok true
+MayAllowAny (Err NoMemory) wanted = Unit {0}
+MayAllowAny (Err (Refused reply)) wanted = wanted ≡ Err reply
+
 -- the state and the reply of the change; where nothing was done, the state is as it was
 abbrev pub Answers : State → State → Result Reply Stop → Result Change Reply → Type 0
 Answers old new (Ok reply) wanted =

@@ -5,7 +5,7 @@ use Rattle.job_table.specs.Opens.{KeptOpen}
 use Rattle.dds_logical.specs.declared.views.View.{View}
 use Rattle.dds_logical.specs.declared.views.LogicalSpec.TheVariants.{Simple, Multi, Join}
 use Rattle.record_fmt.specs.Layout.{IsLaidOut}
-use Rattle.logical_model.specs.Bases.{FileSpec, PhysicalFile, LogicalFile, base_members}
+use Rattle.logical_model.specs.Bases.{FileSpec, PhysicalFile, LogicalFile, base_members, base_names}
 use Rattle.logical_model.specs.Formats.{format_names}
 use Rattle.library_model.specs.Named.{Named, named}
 use Rattle.library_model.specs.declared.replies.Reply.{Reply}
@@ -38,12 +38,13 @@ FindsMember (Ok it) wanted = wanted ≡ Ok (record { file = it.file.now; status 
 FindsMember (Err NoMemory) wanted = ⊥
 FindsMember (Err (Refused reply)) wanted = wanted ≡ Err reply
 
--- the physical file of this name has the records that a file shows through the format of this number: itself, or the one that the format is over
+-- the physical file of this name has the records that a file shows through the format of this number: itself, or the one that the format is over, of a
+-- join the file at this place in JFILE
 abbrev pub IsBaseOf : FileSpec → (name : List ℕ) → (format : ℕ) → (base : List ℕ) → Type 0
 IsBaseOf (PhysicalFile spec) name format base = base ≡ name
 IsBaseOf (LogicalFile (Simple view)) name format base = base ≡ view.base
 IsBaseOf (LogicalFile (Multi views)) name format base = (view : View) × (slice_get views format ≡ Some view) × (base ≡ view.base)
-IsBaseOf (LogicalFile (Join view)) name format base = ⊥
+IsBaseOf (LogicalFile (Join view)) name format base = slice_get (base_names (Join view)) format ≡ Some base
 
 -- so the member that an open reads through its format is that file's, which is there, with records of the fields of this one
 pub record ReadsMember (s : State) (file : FileState) (opened : OpenState) : Type 0 where

@@ -10,14 +10,18 @@ use Rattle.member_slots.specs.Members.{NumberedMembers}
 use Rattle.key_order.specs.KeyFields.{AreBytes}
 use Rattle.key_spec.specs.declared.Ties.TheVariants.{Rising}
 use Rattle.file_model.specs.declared.paths.PathSpec.{PathSpec}
-use Rattle.file_model.specs.FilePaths.{physical_path}
+use Rattle.file_model.specs.FilePaths.{key_parts, physical_path}
+use Rattle.file_model.specs.Joins.{secondary_path}
+use Rattle.dds_logical.specs.declared.join_views.JoinView.{JoinView}
 use Rattle.dds_logical.specs.declared.views.LogicalSpec.{LogicalSpec}
 use Rattle.dds_logical.specs.declared.views.LogicalSpec.TheVariants.{Simple, Multi, Join}
 use Rattle.logical_model.specs.Bases.{Bases, FileSpec, PhysicalFile, LogicalFile, base_names}
+use Rattle.logical_model.specs.FilePaths.{secondary_of}
 use Rattle.logical_laws.specs.Mapped.{AreSameBases, IsSpecMapped}
 use Rattle.logical_paths.specs.KeyedViews.{IsKeyedLogical}
 use Rattle.logical_paths.specs.Steps.{own_path}
 use Rattle.view_records.specs.Through.{HasFormats, HasBytesIn}
+use Rattle.join_records.specs.Linked.{IsLinkedLogical}
 use Rattle.library_paths.specs.AllPaths.{AreKeptFor, all_paths}
 use Rattle.journal_model.specs.Replay.{before_of}
 use Rattle.journal_model.specs.Rollback.{MemberChange}
@@ -25,7 +29,7 @@ use Rattle.path_set.specs.declared.moves.PathMove.{PathMove}
 use Rattle.path_set.specs.KeptPaths.{KeptPaths, NumberedPaths, spare_of}
 use Rattle.path_set.specs.RecordChanges.{RecordChange, reversed, moves_in}
 use Rattle.path_set.specs.MemberSteps.{is_over, slot_replaced}
-use Rattle.job_table.specs.Opens.{OpenOrder}
+use Rattle.job_table.specs.Opens.{JoinOrder, OpenOrder}
 use Rattle.library_model.specs.Named.{Named, named}
 use Rattle.library_steps.specs.LogicalFiles.{bases_in}
 use Rattle.library_steps.specs.Opens.{first_of}
@@ -44,7 +48,7 @@ abbrev pub path_by : Bases → (keyed : Bool) → (member : ℕ) → FileSpec �
 path_by bases keyed member (PhysicalFile spec) = if keyed then Some (physical_path member spec.format.fields spec.keys) else None
 path_by bases keyed member (LogicalFile spec) = Some (own_path bases spec)
 
--- so far no logical file is a join
+-- the file is no join
 abbrev pub IsUnjoined : FileSpec → Type 0
 IsUnjoined (PhysicalFile spec) = Unit {0}
 IsUnjoined (LogicalFile (Simple view)) = Unit {0}
@@ -64,9 +68,8 @@ HasSeveral (Multi views) = 2 ≤ length views
 HasSeveral (Join view) = Unit {0}
 
 -- it has a format; its key is by fields of its base files, and what is stored through it lies in whole fields of these; the fields of its formats are
--- those of what it shows, and what they are made of has a byte
+-- those of what it shows, and what they are made of has a byte; a join is joined from earlier files, by fields of theirs
 pub record IsView (bases : Bases) (spec : LogicalSpec) : Type 0 where
-  pub unjoined : IsUnjoined (LogicalFile spec)
   pub some : IsSome (slice_get (base_names spec) 0)
   pub several : HasSeveral spec
   pub keyed : IsKeyedLogical bases spec
@@ -74,6 +77,7 @@ pub record IsView (bases : Bases) (spec : LogicalSpec) : Type 0 where
   pub rises : RisesIfKeyless spec
   pub formats : HasFormats spec
   pub bytes : HasBytesIn spec
+  pub linked : IsLinkedLogical bases spec
 
 -- the bases of a logical file are the same
 abbrev pub AreSameBasesBy : Bases → Bases → FileSpec → Type 0
@@ -115,9 +119,34 @@ abbrev pub IsReadSo : (by_path : Bool) → FileSpec → Type 0
 IsReadSo by_path (PhysicalFile spec) = Unit {0}
 IsReadSo by_path (LogicalFile spec) = IsTrue by_path
 
+-- the paths of these specifications are kept under these numbers
+abbrev pub AreNumbersOf : NumberedPaths → List PathSpec → List ℕ → Type 0
+AreNumbersOf kept specs ids = AllZip (λ spec id. Any (λ path. (path.number ≡ id) × (path.item.spec ≡ spec)) kept) specs ids
+
+-- the paths over the secondary files of a join; no other file has such
+abbrev pub rows_paths : Bases → FileSpec → List PathSpec
+rows_paths bases (PhysicalFile spec) = []
+rows_paths bases (LogicalFile (Simple view)) = []
+rows_paths bases (LogicalFile (Multi views)) = []
+rows_paths bases (LogicalFile (Join view)) = map secondary_path (map (secondary_of bases) view.secondaries)
+
+-- by these the rows of a join are read, and an open stands among them by its key and the positions of JDUPSEQ
+pub record IsByRows (bases : Bases) (kept : NumberedPaths) (view : JoinView) (join : JoinOrder) : Type 0 where
+  pub paths : AreNumbersOf kept (rows_paths bases (LogicalFile (Join view))) join.paths
+  pub parts : key_parts 0 view.keys.parts ≡ join.parts
+  pub sequences : map (λ joined. joined.sequence) view.secondaries ≡ join.sequences
+
+-- an open of any other file has no rows
+abbrev pub ReadsRowsBy : Bases → NumberedPaths → FileSpec → Option JoinOrder → Type 0
+ReadsRowsBy bases kept (PhysicalFile spec) join = join ≡ None
+ReadsRowsBy bases kept (LogicalFile (Simple view)) join = join ≡ None
+ReadsRowsBy bases kept (LogicalFile (Multi views)) join = join ≡ None
+ReadsRowsBy bases kept (LogicalFile (Join view)) None = ⊥
+ReadsRowsBy bases kept (LogicalFile (Join view)) (Some join) = IsByRows bases kept view join
+
 abbrev pub ReadsFile : Bases → NumberedPaths → OpenState → OpenOrder → Option FileState → Type 0
 ReadsFile bases paths opened order None = ⊥
-ReadsFile bases paths opened order (Some file) = ReadsBy paths (path_read bases file opened) order × IsReadSo (is_file_path opened.access_path) file.spec
+ReadsFile bases paths opened order (Some file) = ReadsBy paths (path_read bases file opened) order × IsReadSo (is_file_path opened.access_path) file.spec × ReadsRowsBy bases paths file.spec order.join
 
 abbrev pub ReadsIn : Named FileState → NumberedPaths → List ℕ × OpenState → List ℕ × OpenOrder → Type 0
 ReadsIn files paths entry order = ReadsFile (bases_in files) paths entry.1 order.1 (named entry.1.file files)

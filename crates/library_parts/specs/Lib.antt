@@ -16,3 +16,6 @@ pub mod Locks
 pub mod Rooms
 pub mod Files
 pub mod Filled
+pub mod Rows
+pub mod Deposits
+pub mod Sizes

@@ -1,19 +1,24 @@
 -- What becomes of the kept paths when a member comes that has one, when a logical file comes, and when the members of a file go? (Our own.)
-use Rattle.std.specs.Prelude.{◌≡◌, ℕ, ◌≤◌, ◌⊎◌, nat_lt, Option, Some, None, List, [], ◌∷◌, length, if◌then◌else◌}
-use Rattle.std.specs.List.{find}
+use Rattle.std.specs.Prelude.{◌≡◌, ℕ, ◌≤◌, ◌⊎◌, nat_lt, false, Any, Contains, Option, Some, None, List, [], ◌∷◌, ◌++◌, length, if◌then◌else◌}
+use Rattle.std.specs.List.{AllByRecursion, AllZip, find}
 use Rattle.std.specs.Option.{option_map}
 use Rattle.member_slots.specs.Members.{NumberedMembers}
 use Rattle.dds_physical.specs.declared.physical_files.PhysicalSpec.{PhysicalSpec}
 use Rattle.file_model.specs.declared.paths.PathSpec.{PathSpec}
 use Rattle.file_model.specs.FilePaths.{physical_path}
 use Rattle.logical_model.specs.Bases.{FileSpec, PhysicalFile, LogicalFile}
-use Rattle.path_set.specs.KeptPaths.{KeptPaths, NumberedPaths, spare_of}
+use Rattle.path_set.specs.declared.moves.PathMove.{PathMove}
+use Rattle.path_set.specs.KeptPaths.{AreShared, KeptPaths, NumberedPaths, spare_of}
 use Rattle.path_set.specs.MemberSteps.{is_over}
 use Rattle.path_set.specs.Sharing.{IsShared, IsPut, detached}
-use Rattle.logical_paths.specs.Steps.{own_path}
+use Rattle.logical_model.specs.FilePaths.{logical_paths}
+use Rattle.library_paths.specs.AllPaths.{AreKeptFor}
+use Rattle.job_table.specs.Opens.{OpenOrder}
 use Rattle.library_model.specs.Named.{Named, named}
 use Rattle.library_steps.specs.LogicalFiles.{bases_in}
-use Rattle.library_steps.specs.State.{FileState, MemberStatus}
+use Rattle.library_steps.specs.State.{FileState, JobState, MemberStatus}
+use Rattle.library_steps.specs.Uses.{changes_in}
+use Rattle.library_parts.specs.Indexed.{IsIndexedFor}
 use Rattle.library_parts.specs.Parts.{LibraryParts}
 use Rattle.library_parts.specs.Reads.{IsNumberOf}
 
@@ -53,15 +58,48 @@ abbrev pub without_paths : Named MemberStatus → NumberedPaths → NumberedPath
 without_paths [] paths = paths
 without_paths (entry ∷ gone) paths = without_paths gone (without_path_over entry.1.number paths)
 
--- the number of a logical file's path; none of another file
-abbrev pub IsPathOf : Named FileState → NumberedPaths → FileSpec → Option ℕ → Type 0
-IsPathOf files paths (PhysicalFile spec) id = id ≡ None
-IsPathOf files paths (LogicalFile spec) id = IsNumberOf (own_path (bases_in files) spec) id paths
+-- so have the paths of these numbers
+abbrev pub detached_each : List (Option ℕ) → NumberedPaths → NumberedPaths
+detached_each [] paths = paths
+detached_each (id ∷ ids) paths = detached_each ids (detached_from id paths)
 
-abbrev pub IsPathOfNamed : Named FileState → NumberedPaths → Option FileState → Option ℕ → Type 0
-IsPathOfNamed files paths None id = id ≡ None
-IsPathOfNamed files paths (Some file) id = IsPathOf files paths file.spec id
+-- the numbers of some paths
+abbrev pub AreNumbers : NumberedPaths → List PathSpec → List (Option ℕ) → Type 0
+AreNumbers paths specs ids = AllZip (λ spec id. IsNumberOf spec id paths) specs ids
+
+-- the numbers of a logical file's paths; none of another file
+abbrev pub ArePathsOf : Named FileState → NumberedPaths → FileSpec → List (Option ℕ) → Type 0
+ArePathsOf files paths (PhysicalFile spec) ids = ids ≡ []
+ArePathsOf files paths (LogicalFile spec) ids = AreNumbers paths (logical_paths (bases_in files) spec) ids
+
+abbrev pub ArePathsOfNamed : Named FileState → NumberedPaths → Option FileState → List (Option ℕ) → Type 0
+ArePathsOfNamed files paths None ids = ids ≡ []
+ArePathsOfNamed files paths (Some file) ids = ArePathsOf files paths file.spec ids
 
 -- of the file of this name
-abbrev pub IsPathOfView : LibraryParts → (name : List ℕ) → Option ℕ → Type 0
-IsPathOfView parts name id = IsPathOfNamed parts.state.files parts.room.paths.paths (named name parts.state.files) id
+abbrev pub ArePathsOfView : LibraryParts → (name : List ℕ) → List (Option ℕ) → Type 0
+ArePathsOfView parts name ids = ArePathsOfNamed parts.state.files parts.room.paths.paths (named name parts.state.files) ids
+
+-- ---- several paths more
+
+-- no open commit cycle has changed a member that the path is over
+abbrev pub HasNoChange : List JobState → PathSpec → Type 0
+HasNoChange jobs spec = AllByRecursion (λ job. AllByRecursion (λ undo. is_over undo.member spec ≡ false) (changes_in job.cycle)) jobs
+
+-- a file has the paths of these specifications too, whatever else is kept
+pub record Attaches (specs : List PathSpec) (members : NumberedMembers) (old new : KeptPaths) : Type 0 where
+  pub shared : AreShared old.paths → AreShared new.paths
+  pub indexed : AreShared old.paths → (all : List PathSpec) (files : Named FileState) (jobs : List JobState) (orders : List (Named OpenOrder)) (moves : List (List (List PathMove)))
+      → AllByRecursion (HasNoChange jobs) specs → IsIndexedFor all files members jobs orders moves old → IsIndexedFor (specs ++ all) files members jobs orders moves new
+
+-- what is kept for some paths stays so, and under its numbers
+pub record StaysKept (all : List PathSpec) (members : NumberedMembers) (old new : NumberedPaths) : Type 0 where
+  pub shared : AreShared new
+  pub kept : AreKeptFor all members new
+  pub numbers : (id : ℕ) (spec : PathSpec) → Contains all spec → Any (λ path. (path.number ≡ id) × (path.item.spec ≡ spec)) old → Any (λ path. (path.number ≡ id) × (path.item.spec ≡ spec)) new
+
+-- it has none of them, where one couldn't be kept
+pub record AttachesNone (specs : List PathSpec) (members : NumberedMembers) (old new : KeptPaths) : Type 0 where
+  pub stays : AreShared old.paths → (all : List PathSpec) → AreKeptFor all members old.paths → StaysKept all members old.paths new.paths
+  pub indexed : AreShared old.paths → (all : List PathSpec) (files : Named FileState) (jobs : List JobState) (orders : List (Named OpenOrder)) (moves : List (List (List PathMove)))
+      → AllByRecursion (HasNoChange jobs) specs → IsIndexedFor all files members jobs orders moves old → IsIndexedFor all files members jobs orders moves new

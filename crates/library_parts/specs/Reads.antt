@@ -38,7 +38,7 @@ use Rattle.library_steps.specs.State.{Memory, FileState, OpenState, memory_of}
 use Rattle.library_parts.specs.declared.stop.Stop.{Stop}
 use Rattle.library_parts.specs.declared.stop.Stop.TheVariants.{NoMemory, Refused}
 use Rattle.library_parts.specs.declared.reading.Found.{Found}
-use Rattle.library_parts.specs.Indexed.{IsReadSo, IsUnjoined, ReadsBy, ReadsFile, path_read}
+use Rattle.library_parts.specs.Indexed.{IsReadSo, IsUnjoined, ReadsBy, ReadsFile, ReadsRowsBy, path_read}
 use Rattle.library_parts.specs.Parts.{LibraryParts}
 
 -- the positions of the key by which an open reads, in each format; an open without a key reads one format that has none
@@ -65,11 +65,11 @@ abbrev pub IsNumberOf : PathSpec → Option ℕ → NumberedPaths → Type 0
 IsNumberOf spec None paths = IsNew spec paths
 IsNumberOf spec (Some id) paths = Any (λ path. (path.number ≡ id) × (path.item.spec ≡ spec)) paths
 
--- the open is one of this library, of a file that is no join, and so is the way in which it reads
+-- the open is one of this library, and so is the way in which it reads
 pub record ReadsAs (parts : LibraryParts) (opened : KeptOpen) (file : FileState) : Type 0 where
   pub by : ReadsBy parts.room.paths.paths (path_read (bases_in parts.state.files) file opened.state) opened.order
   pub so : IsReadSo (is_file_path opened.state.access_path) file.spec
-  pub unjoined : IsUnjoined file.spec
+  pub rows : ReadsRowsBy (bases_in parts.state.files) parts.room.paths.paths file.spec opened.order.join
 
 -- how the opens of the job read, by their names
 abbrev pub orders_in : (job : ℕ) → LibraryParts → Named OpenOrder
@@ -156,10 +156,11 @@ abbrev pub FindsEntry : Option Found → Option PathEntry → Type 0
 FindsEntry None wanted = wanted ≡ None
 FindsEntry (Some found) wanted = (entry : PathEntry) × (wanted ≡ Some entry) × (entry.rrn ≡ found.rrn) × (entry.format ≡ found.format)
 
--- the job's open of this name, through which something is found
+-- the job's open of this name, of a file that is no join, through which something is found
 pub record CanNote (parts : LibraryParts) (job : ℕ) (name : List ℕ) (by : ReadBy) : Type 0 where
   pub its : OpenedFile
   pub opened : opened_file name job (memory_of parts.state) ≡ Ok its
+  pub unjoined : IsUnjoined its.file.spec
   pub asked : IsAskedOf (formats_read (bases_of (memory_of parts.state)) its.file its.opened) by
   pub looked : IsLookedIn (is_keyed its.file its.opened) by
   pub found : (entry : PathEntry) × (found_by by its.file its.opened (memory_of parts.state) ≡ Some entry)
@@ -196,6 +197,13 @@ CanStandIn formats limits.LowValue = Unit {0}
 CanStandIn formats limits.HighValue = Unit {0}
 CanStandIn formats (limits.Key values) = key_fault (merged_parts formats) values ≡ None
 CanStandIn formats (limits.RecordNumber rrn) = HasNoKey formats
+
+-- an open of a join can, by these positions of its key
+abbrev pub CanStandAmong : List KeyPart → Limit → Type 0
+CanStandAmong parts limits.LowValue = Unit {0}
+CanStandAmong parts limits.HighValue = Unit {0}
+CanStandAmong parts (limits.Key values) = key_fault parts values ≡ None
+CanStandAmong parts (limits.RecordNumber rrn) = ⊥
 
 -- where it stands then
 abbrev pub stood_at : Side → List KeyPart → Limit → Position PathEntry

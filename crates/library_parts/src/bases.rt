@@ -1,7 +1,10 @@
 //! The base files of a library's logical files.
 ghost use Rattle.std.specs.Prelude.{◌≡◌, IfOk};
 ghost use Rattle.library_steps.specs.LogicalFiles.{bases_in};
+ghost use Rattle.logical_model.specs.Bases.{LogicalFile};
+ghost use Rattle.logical_model.specs.FilePaths.{logical_paths};
 ghost use Rattle.logical_paths.specs.Steps.{own_path};
+ghost use Rattle.library_parts.specs.Indexed.{rows_paths};
 
 use crate::contents::Contents;
 use dds_logical::LogicalSpec;
@@ -9,7 +12,7 @@ use field_types::names::Name;
 use file_catalogue::Catalogue;
 use file_model::paths::PathSpec;
 use logical_paths::bases::BaseFiles;
-use logical_paths::paths::own_path;
+use logical_paths::paths::{logical_paths, own_path};
 use record_fmt::formats::Field;
 use std::alloc::AllocError;
 
@@ -42,5 +45,24 @@ impl Contents {
             files: &self.catalogue,
         };
         own_path(self.alloc, &bases, spec)
+    }
+
+    /// All paths of a logical file, that by which it is read first.
+    pub(crate) fn all_paths(&self, spec: &LogicalSpec) -> Result<Vec<PathSpec>, AllocError>
+        ensures { IfOk result (λ paths. paths.items ≡ logical_paths (bases_in self.now.state.files) spec.now) }
+    {
+        let bases = LibraryBases {
+            files: &self.catalogue,
+        };
+        logical_paths(self.alloc, &bases, spec)
+    }
+
+    /// Those of a join over its secondary files; no other file has more than one.
+    pub(crate) fn other_paths(&self, spec: &LogicalSpec) -> Result<Vec<PathSpec>, AllocError>
+        ensures { IfOk result (λ paths. paths.items ≡ rows_paths (bases_in self.now.state.files) (LogicalFile spec.now)) }
+    {
+        let mut paths = self.all_paths(spec)?;
+        let _own = paths.remove(0);
+        Ok(paths)
     }
 }

@@ -1,5 +1,8 @@
 //! What effects change of the files and of whole members.
-ghost use Rattle.std.specs.Prelude.{◌≡◌, ℕ, ◌+◌, ◌≤◌, ◌⊎◌, ◌∷◌, Some, None, IsSome, IfOk, OnOk, OnErr, MatchOption, length};
+ghost use Rattle.std.specs.Prelude.{◌≡◌, ℕ, ◌+◌, ◌<◌, ◌≤◌, ◌⊎◌, [], ◌∷◌, ◌++◌, Some, None, All, IsSome, IsTrue, IfOk, OnOk, OnErr, MatchOption, length};
+ghost use Rattle.std.specs.List.{AllByRecursion};
+ghost use Rattle.key_order.specs.declared.widths.TheConstants.{MOST_POSITIONS};
+ghost use Rattle.logical_paths.specs.KeyedViews.{HaveFewPairs};
 ghost use Rattle.library_steps.specs.CreatePhysicalFile.{formats_of, with_file};
 ghost use Rattle.library_steps.specs.CreateLogicalFile.{first_repeated, with_logical};
 ghost use Rattle.library_steps.specs.LogicalFiles.{bases_of};
@@ -19,21 +22,23 @@ ghost use Rattle.lawful_states.specs.Owners.{AreApart};
 ghost use Rattle.file_catalogue.specs.Views.{DescribesView};
 ghost use Rattle.path_entrants.specs.Repeated.{TellsRepeated};
 ghost use Rattle.path_set.specs.KeptPaths.{AreOver, spare_of};
-ghost use Rattle.path_set.specs.Sharing.{CanBeKept, IsNew};
-ghost use Rattle.library_parts.specs.Answers.{MayAllow};
+ghost use Rattle.path_set.specs.Sharing.{CanBeKept, IsNew, IsPut, IsShared};
+ghost use Rattle.library_parts.specs.Answers.{MayAllow, MayAllowAny};
 ghost use Rattle.library_parts.specs.Files.{IsNewFile, IsNewMember, IsNewView};
-ghost use Rattle.library_parts.specs.PathChanges.{AttachesPath, IsAttached, IsPathOf, IsPathOfView, detached_from, member_path, without_path_over, without_paths};
+ghost use Rattle.library_parts.specs.PathChanges.{AreNumbers, ArePathsOf, ArePathsOfView, Attaches, AttachesNone, AttachesPath, detached_each, detached_from, member_path, without_path_over, without_paths};
 ghost use Rattle.library_parts.specs.Rooms.{HasFileRoom, HasMemberRoom};
 
 use crate::contents::Contents;
 use crate::members::weight;
 use crate::stop::Stop;
-use dds_logical::LogicalFault;
+use dds_logical::join_views::JoinedFile;
+use dds_logical::{LogicalFault, LogicalSpec};
 use dds_physical::PhysicalError;
 use field_types::names::Name;
 use field_types::texts::SourceText;
 use file_catalogue::{Described, DescribedView, File, Members as FileMembers};
 use file_model::paths::PathSpec;
+use key_order::widths::MOST_POSITIONS;
 use library_model::replies::Reply;
 use library_model::requests::{DeleteFile, FileMember};
 use member_paths::member_path;
@@ -102,7 +107,8 @@ impl Contents {
         Ok(())
     }
 
-    /// Adds a logical file with its path, unless two records would have one key in it that may not. Out of memory changes nothing.
+    /// Adds a logical file with its paths, unless two records would have one key in its own that may not. Out of memory changes nothing.
+    /// Where more fields reach a secondary file of a join than a key can have, memory counts as exhausted.
     pub fn add_view(&mut self, name: Name, view: DescribedView) -> Result<(), Stop>
         requires new { IsNewView self.old.state name view }
         requires room { HasFileRoom self.old.room }
@@ -116,8 +122,11 @@ impl Contents {
         let _len = self.catalogue.len();
         let _kept = self.paths.kept();
         let _none = self.members.at(0);
-        let path = self.own_path(view.spec())?;
-        attach_own_path(&mut self.paths, &self.members, name, path)?;
+        let spec = view.spec();
+        has_few_pairs(spec)?;
+        let path = self.own_path(spec)?;
+        let mut others = self.other_paths(spec)?;
+        attach_view(&mut self.paths, &self.members, name, path, &mut others)?;
         let file = File::over(self.alloc, view);
         self.catalogue.add(name, file);
         Ok(())
@@ -152,35 +161,36 @@ impl Contents {
         Ok(())
     }
 
-    /// The number of the path of the file of that name, where it is a logical one.
-    pub fn view_path(&self, name: &Name) -> Result<Option<u64>, AllocError>
-        ensures { IfOk result (λ id. IsPathOfView self.now name.now id) }
+    /// The numbers of the paths of the file of that name, where it is a logical one.
+    pub fn view_paths(&self, name: &Name) -> Result<Vec<Option<u64>>, AllocError>
+        ensures { IfOk result (λ ids. ArePathsOfView self.now name.now ids.items) }
     {
         match self.catalogue.named(name) {
-            Some(file) => self.path_of_view(file),
-            None => Ok(None),
+            Some(file) => self.paths_of_view(file),
+            None => Ok(Vec::new(self.alloc)),
         }
     }
 
-    /// The number of the path of a file, where it is a logical one.
-    fn path_of_view(&self, file: &File) -> Result<Option<u64>, AllocError>
-        ensures { IfOk result (λ id. IsPathOf self.now.state.files self.now.room.paths.paths file.now.spec id) }
+    /// The numbers of the paths of a file, where it is a logical one.
+    fn paths_of_view(&self, file: &File) -> Result<Vec<Option<u64>>, AllocError>
+        ensures { IfOk result (λ ids. ArePathsOf self.now.state.files self.now.room.paths.paths file.now.spec ids.items) }
     {
         match file.logical() {
             Some(view) => {
-                let path = self.own_path(view)?;
-                Ok(self.paths.number_of(&path))
+                let specs = self.all_paths(view)?;
+                let ids = numbers_of(self.alloc, &self.paths, specs.as_slice())?;
+                Ok(ids)
             }
-            None => Ok(None),
+            None => Ok(Vec::new(self.alloc)),
         }
     }
 
     /// Takes out a file that no job uses and on which no other depends, and its members and paths with it.
-    pub fn remove_file(&mut self, args: &DeleteFile, path: Option<u64>) -> File
+    pub fn remove_file(&mut self, args: &DeleteFile, paths: &[Option<u64>]) -> File
         requires there { IsSome (named args.now.file self.old.state.files) }
         requires alone { first_dependent args.now.file self.old.state.files ≡ None }
         requires unused { (file : FileState) → named args.now.file self.old.state.files ≡ Some file → user_by file.spec args.now.file file (memory_of self.old.state) ≡ None }
-        requires path { IsPathOfView self.old args.now.file path }
+        requires paths { ArePathsOfView self.old args.now.file paths.now }
         ensures file { named args.now.file self.old.state.files ≡ Some result }
         ensures memory { memory_of self.new.state ≡ deleted args.now result (memory_of self.old.state) }
         ensures entries { self.new.state.entries ≡ self.old.state.entries }
@@ -192,7 +202,7 @@ impl Contents {
         let file = self.catalogue.remove(&args.file);
         let gone = file.members();
         detach_paths(&mut self.paths, gone);
-        detach_own(&mut self.paths, path);
+        detach_each(&mut self.paths, paths);
         let bytes = take_members(&mut self.members, gone);
         self.member_bytes -= bytes;
         file
@@ -248,25 +258,80 @@ fn attach_path(
     }
 }
 
-/// Keeps the path of a logical file, unless two records would have one key in it that may not.
+/// Keeps the paths of a logical file, unless two records would have one key in its own that may not.
+fn attach_view(
+    paths: &mut PathSet,
+    members: &Members,
+    file: Name,
+    path: PathSpec,
+    others: &mut Vec<PathSpec>,
+) -> Result<(), Stop>
+    requires kept { CanBeKept path members.now.members }
+    requires tells { TellsRepeated path members.now.members }
+    requires over { AreOver members.now.members paths.old.paths }
+    requires others { All (λ spec. CanBeKept spec members.now.members) others.old.items }
+    ensures apart { MayAllow result (refuse_with (DuplicateKey file) (repeated_in path members.now.members)) }
+    ensures attached { OnOk result (Attaches (others.old.items ++ path ∷ []) members.now.members paths.old paths.new) }
+    ensures refused { OnErr result (AttachesNone (others.old.items ++ path ∷ []) members.now.members paths.old paths.new) }
+{
+    let id = match attach_own_path(paths, members, file, path) {
+        Ok(id) => id,
+        Err(stop) => return Err(stop),
+    };
+    match attach_each(paths, members, others) {
+        Ok(()) => Ok(()),
+        Err(_) => {
+            paths.detach(id);
+            Err(Stop::NoMemory)
+        }
+    }
+}
+
+/// Keeps paths in which equal keys may stand, or none of them.
+fn attach_each(
+    paths: &mut PathSet,
+    members: &Members,
+    specs: &mut Vec<PathSpec>,
+) -> Result<(), AllocError>
+    requires { All (λ spec. CanBeKept spec members.now.members) specs.old.items }
+    ensures attached { OnOk result (Attaches specs.old.items members.now.members paths.old paths.new) }
+    ensures refused { OnErr result (AttachesNone specs.old.items members.now.members paths.old paths.new) }
+{
+    match specs.pop() {
+        Some(spec) => {
+            let id = paths.restore(spec, members)?;
+            match attach_each(paths, members, specs) {
+                Ok(()) => Ok(()),
+                Err(error) => {
+                    paths.detach(id);
+                    Err(error)
+                }
+            }
+        }
+        None => Ok(()),
+    }
+}
+
+/// Keeps the path of a logical file, unless two records would have one key in it that may not, and answers its number.
 fn attach_own_path(
     paths: &mut PathSet,
     members: &Members,
     file: Name,
     path: PathSpec,
-) -> Result<(), Stop>
+) -> Result<u64, Stop>
     requires kept { CanBeKept path members.now.members }
     requires tells { TellsRepeated path members.now.members }
     requires over { AreOver members.now.members paths.old.paths }
-    ensures apart { MayAllow result (refuse_with (DuplicateKey file) (repeated_in path members.now.members)) }
-    ensures attached { OnOk result (IsAttached path members.now.members paths.old paths.new) }
+    ensures apart { MayAllowAny result (refuse_with (DuplicateKey file) (repeated_in path members.now.members)) }
+    ensures attached { IfOk result (λ id. IsShared path id paths.old.paths paths.new.paths ⊎ IsPut path members.now.members id paths.old.paths paths.new.paths) }
+    ensures rooms { (id : ℕ) → spare_of id paths.old ≤ spare_of id paths.new }
     ensures refused { OnErr result (paths.new ≡ paths.old) }
 {
     if let Some(rrn) = repeated_there(paths, &path) {
         return Err(Stop::Refused(Reply::DuplicateKey { file, rrn }));
     }
     match paths.attach(path, members, 0) {
-        Ok(_) => Ok(()),
+        Ok(id) => Ok(id),
         Err(PathFault::NoMemory) => Err(Stop::NoMemory),
         Err(PathFault::Equal { rrn }) => Err(Stop::Refused(Reply::DuplicateKey { file, rrn })),
     }
@@ -302,6 +367,55 @@ fn detach_path(paths: &mut PathSet, number: u32)
 {
     let first = paths.first_over(number);
     detach_own(paths, first);
+}
+
+/// The numbers of some paths, those that are kept.
+fn numbers_of(
+    alloc: Global,
+    paths: &PathSet,
+    specs: &[PathSpec],
+) -> Result<Vec<Option<u64>>, AllocError>
+    ensures { IfOk result (λ ids. AreNumbers paths.now.paths specs.now ids.items) }
+{
+    let mut ids = Vec::new(alloc);
+    for spec in specs {
+        ids.push(paths.number_of(spec))?;
+    }
+    Ok(ids)
+}
+
+/// Gives up the paths of these numbers.
+fn detach_each(paths: &mut PathSet, ids: &[Option<u64>])
+    ensures paths { paths.new.paths ≡ detached_each ids.now paths.old.paths }
+    ensures spares { (id : ℕ) → IsSome (item_at id paths.new.paths) → spare_of id paths.new ≡ spare_of id paths.old }
+{
+    let [id, more @ ..] = ids else {
+        return;
+    };
+    detach_own(paths, *id);
+    detach_each(paths, more);
+}
+
+/// Memory counts as exhausted where a secondary file of a join is reached by more fields than a key can have.
+fn has_few_pairs(spec: &LogicalSpec) -> Result<(), AllocError>
+    ensures { OnOk result (HaveFewPairs spec.now) }
+{
+    match spec {
+        LogicalSpec::Simple(_) | LogicalSpec::Multi(_) => Ok(()),
+        LogicalSpec::Join(view) => have_few_pairs(view.secondaries.as_slice()),
+    }
+}
+
+fn have_few_pairs(files: &[JoinedFile]) -> Result<(), AllocError>
+    ensures { OnOk result (AllByRecursion (λ joined. length joined.pairs < MOST_POSITIONS) files.now) }
+{
+    let [joined, more @ ..] = files else {
+        return Ok(());
+    };
+    if joined.pairs.as_slice().len() >= MOST_POSITIONS {
+        return Err(AllocError);
+    }
+    have_few_pairs(more)
 }
 
 /// Gives up the path of this number, where one is given.

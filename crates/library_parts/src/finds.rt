@@ -11,7 +11,7 @@ ghost use Rattle.library_parts.specs.Answers.{Shows, Allows};
 ghost use Rattle.lawful_states.specs.Physical.{IsPhysical};
 ghost use Rattle.library_parts.specs.Finds.{ShowsOpen, FindsOpen, FindsMember, IsFormatIn, ReadsMember};
 ghost use Rattle.lawful_states.specs.Members.{HasMember};
-ghost use Rattle.library_parts.specs.Indexed.{IsUnjoined, IsViewBeside};
+ghost use Rattle.library_parts.specs.Indexed.{IsViewBeside};
 ghost use Rattle.job_table.specs.Opens.{AllOfNumber};
 ghost use Rattle.library_model.specs.Named.{named};
 ghost use Rattle.library_parts.specs.Reads.{ReadsAs, orders_in};
@@ -82,7 +82,6 @@ impl Contents {
         ensures shows { IfOk result (λ its. open_named name.now job (memory_of self.now.state) ≡ Some its.opened.now.state) }
         ensures order { IfOk result (λ its. named name.now (orders_in job self.now) ≡ Some its.opened.now.order) }
         ensures there { IfOk result (λ its. ReadsMember self.now.state its.file.now its.opened.now.state) }
-        ensures unjoined { IfOk result (λ its. IsUnjoined its.file.now.spec) }
         ensures view { IfOk result (λ its. IsViewBeside self.now.state.files its.file.now.spec) }
         ensures reads { IfOk result (λ its. ReadsAs self.now its.opened.now its.file.now) }
         ensures alone { IfOk result (λ its. AllOfNumber its.opened.now.state.number (λ order. order ≡ its.opened.now.order) (orders_in job self.now)) }
@@ -98,7 +97,6 @@ impl Contents {
     /// An open, where it is at one of the formats of its file.
     pub fn at_format<'a>(&self, opened: &'a Open, file: &File, format: u16) -> OpenAt<'a>
         requires there { ReadsMember self.now.state file.now opened.now.state }
-        requires unjoined { IsUnjoined file.now.spec }
         requires format { IsFormatIn file.now.spec format }
         ensures state { result.state ≡ at_format format opened.now.state }
         ensures order { result.order ≡ opened.now.order }

@@ -12,13 +12,15 @@ ghost use Rattle.library_steps.specs.State.{Memory, FileState, MemberStatus, mem
 ghost use Rattle.library_steps.specs.UniqueKeys.{all_apart, has_member, own_unique, unique_paths, uniques_by, view_unique};
 ghost use Rattle.library_parts.specs.Answers.{MayAllow};
 ghost use Rattle.library_parts.specs.Given.{AreMovesOfAll, AreTold, CanTake, HasRoomFor, IsTold, MayGive, members_given, unique_of, with_given};
-ghost use Rattle.library_parts.specs.Indexed.{AreViews, HasBytes, IsUnjoined};
+ghost use Rattle.library_parts.specs.Indexed.{AreViews, HasBytes};
+ghost use Rattle.dds_logical.specs.declared.views.LogicalSpec.TheVariants.{Join, Simple};
 
 use crate::bases::LibraryBases;
 use crate::contents::Contents;
 use crate::members::{changes_with, of_bytes, weight};
 use crate::stop::Stop;
-use dds_logical::views::LogicalSpec;
+use dds_logical::join_views::JoinView;
+use dds_logical::views::{LogicalSpec, View};
 use field_types::names::Name;
 use file_catalogue::{Catalogue, Described, File, FileBody};
 use file_model::paths::PathSpec;
@@ -149,7 +151,7 @@ fn file_apart(
     member: u32,
     place: usize,
 ) -> Result<(), Stop>
-    ensures { (m later : Memory) (entry : List ℕ × FileState) → m.files ≡ catalogue.now.files → slice_get catalogue.now.files place ≡ Some entry → IsUnjoined entry.1.spec
+    ensures { (m later : Memory) (entry : List ℕ × FileState) → m.files ≡ catalogue.now.files → slice_get catalogue.now.files place ≡ Some entry
         → AllByRecursion (IsTold later.members paths.now.paths) (uniques_by entry.1.spec m member entry) → MayAllow result (all_apart (uniques_by entry.1.spec m member entry) later) }
 {
     let Some((name, file)) = catalogue.at(place) else {
@@ -184,7 +186,7 @@ pub(crate) fn unique_path(
     member: u32,
     file: &File,
 ) -> Result<Option<PathSpec>, AllocError>
-    ensures { IfOk result (λ path. (m : Memory) (name : List ℕ) → m.files ≡ catalogue.now.files → IsUnjoined file.now.spec → uniques_by file.now.spec m member (name, file.now) ≡ unique_of name path) }
+    ensures { IfOk result (λ path. (m : Memory) (name : List ℕ) → m.files ≡ catalogue.now.files → uniques_by file.now.spec m member (name, file.now) ≡ unique_of name path) }
 {
     match file.described() {
         FileBody::Physical(described) => {
@@ -218,12 +220,48 @@ fn view_unique(
     member: u32,
     spec: &LogicalSpec,
 ) -> Result<Option<PathSpec>, AllocError>
-    ensures { IfOk result (λ path. (m : Memory) (name : List ℕ) → m.files ≡ catalogue.now.files → IsUnjoined (LogicalFile spec.now) → view_unique m name member spec.now ≡ unique_of name path) }
+    ensures { IfOk result (λ path. (m : Memory) (name : List ℕ) → m.files ≡ catalogue.now.files → view_unique m name member spec.now ≡ unique_of name path) }
 {
-    let LogicalSpec::Simple(view) = spec else {
-        return Ok(None);
-    };
+    match spec {
+        LogicalSpec::Simple(view) => simple_unique(alloc, catalogue, member, spec, view),
+        LogicalSpec::Multi(_) => Ok(None),
+        LogicalSpec::Join(view) => join_unique(alloc, catalogue, member, spec, view),
+    }
+}
+
+/// That of a file of one format.
+fn simple_unique(
+    alloc: Global,
+    catalogue: &Catalogue,
+    member: u32,
+    spec: &LogicalSpec,
+    view: &View,
+) -> Result<Option<PathSpec>, AllocError>
+    requires { spec.now ≡ Simple view.now }
+    ensures { IfOk result (λ path. (m : Memory) (name : List ℕ) → m.files ≡ catalogue.now.files → view_unique m name member (Simple view.now) ≡ unique_of name path) }
+{
     let (base, _) = catalogue.base_of(&view.base);
+    if view.keys.unique && base == member {
+        let bases = LibraryBases { files: catalogue };
+        let path = own_path(alloc, &bases, spec)?;
+        Ok(Some(path))
+    } else {
+        Ok(None)
+    }
+}
+
+/// That of a join: its primary file's.
+fn join_unique(
+    alloc: Global,
+    catalogue: &Catalogue,
+    member: u32,
+    spec: &LogicalSpec,
+    view: &JoinView,
+) -> Result<Option<PathSpec>, AllocError>
+    requires { spec.now ≡ Join view.now }
+    ensures { IfOk result (λ path. (m : Memory) (name : List ℕ) → m.files ≡ catalogue.now.files → view_unique m name member (Join view.now) ≡ unique_of name path) }
+{
+    let (base, _) = catalogue.base_of(&view.primary);
     if view.keys.unique && base == member {
         let bases = LibraryBases { files: catalogue };
         let path = own_path(alloc, &bases, spec)?;

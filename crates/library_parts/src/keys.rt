@@ -8,7 +8,6 @@ ghost use Rattle.library_model.specs.declared.replies.Reply.TheVariants.{Duplica
 ghost use Rattle.library_steps.specs.Refusals.{refuse_with};
 ghost use Rattle.journal_model.specs.Rollback.{MemberChange};
 ghost use Rattle.path_entrants.specs.Formats.{IsAskable};
-ghost use Rattle.library_parts.specs.Indexed.{IsUnjoined};
 ghost use Rattle.library_parts.specs.NewKeys.{AllAreAskedBefore, AreAskedBefore, AreFreeIn, IsAskedBefore, IsFormatAt, IsKeptOver, IsKeyAt, IsNewFor, MayBeAsked, ShowsKey, first_reserved, keys_kept, keys_tested, least_of, least_reserved, lesser_of, new_in_paths, own_reserved, refused_by, reservation_of, taken, tested};
 ghost use Rattle.member_slots.specs.declared.slot.Slot.TheVariants.{Live};
 ghost use Rattle.member_slots.specs.Member.{FitsSlot};
@@ -210,7 +209,6 @@ impl Contents {
     ) -> Result<(), Stop>
         requires running { IsTrue (is_running (job_at new.job self.now.state.jobs)) }
         requires asked { IsNewFor self.now new.member new.rrn new.image.now }
-        requires unjoined { IsUnjoined file.now.spec }
         requires kept { AllByRecursion (IsKeptOver new.member self.now.room.paths.paths) (uniques_by file.now.spec (memory_of self.now.state) new.member (name, file.now)) }
         ensures { MayAllow result (refused_by test new.entry.job new.entry.commit new.entry.rrn (new_in_paths (uniques_by file.now.spec (memory_of self.now.state) new.entry.member (name, file.now)) (memory_of self.now.state) new.entry.member new.entry.rrn new.entry.image.now) (memory_of self.now.state)) }
     {

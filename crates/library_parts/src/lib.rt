@@ -1,10 +1,12 @@
 //! The memory of a library as one value over its parts, ready for the bodies of its requests. Begin with `contents.rt`.
 #![tactic(auto)]
 
+pub mod authors;
 mod bases;
 mod boundaries;
 pub mod contents;
 mod cycles;
+pub mod deposits;
 mod files;
 pub mod finds;
 mod given;
@@ -20,13 +22,18 @@ pub mod reading;
 mod records;
 mod reserves;
 mod restart;
+pub mod rows;
+pub mod sizes;
 pub mod stop;
 mod texts;
 mod users;
 
+pub use authors::Author;
 pub use contents::Contents;
+pub use deposits::{deposit_all, deposits_leave, may_deposit, reserve_all, with_room};
 pub use finds::{MemberFound, OpenFound, no_such_name};
 pub use locking::{holder_of, record_of};
 pub use members::SlotTaken;
 pub use reading::Found;
+pub use rows::RowFound;
 pub use stop::Stop;

@@ -11,7 +11,7 @@ ghost use Rattle.key_order.specs.KeyFields.{ArePositions};
 ghost use Rattle.key_spec.specs.declared.KeyPart.{KeyPart};
 ghost use Rattle.path_set.specs.MemberSteps.{is_over};
 ghost use Rattle.member_slots.specs.Members.{NumberedMembers};
-ghost use Rattle.job_table.specs.Opens.{AllOfNumber};
+ghost use Rattle.job_table.specs.Opens.{AllOfNumber, join_by, rows_in};
 ghost use Rattle.job_table.specs.Table.{job_of_number, orders_at};
 ghost use Rattle.library_model.specs.Named.{named};
 ghost use Rattle.library_steps.specs.History.{is_running};
@@ -24,11 +24,14 @@ ghost use Rattle.open_position.specs.Reads.{IsAskedOf, IsStandAt, asked_of, entr
 ghost use Rattle.library_steps.specs.LogicalFiles.{bases_in, bases_of};
 ghost use Rattle.logical_model.specs.Bases.{LogicalFile, PhysicalFile};
 ghost use Rattle.logical_model.specs.Formats.{has_key};
-ghost use Rattle.logical_model.specs.Readings.{has_numbers};
+ghost use Rattle.logical_model.specs.Readings.{has_numbers, join_in};
 ghost use Rattle.logical_paths.specs.Steps.{own_path};
-ghost use Rattle.library_parts.specs.Indexed.{IsView, path_by};
+ghost use Rattle.library_parts.specs.Indexed.{AreNumbersOf, IsUnjoined, IsView, ReadsRowsBy, path_by};
+ghost use Rattle.join_position.specs.RowStand as rows;
+ghost use Rattle.dds_logical.specs.declared.views.LogicalSpec.TheVariants.{Join};
+ghost use Rattle.logical_paths.specs.KeyedViews.{IsKeyedJoin};
 ghost use Rattle.library_parts.specs.Finds.{OpensMembers, ReadsMember};
-ghost use Rattle.library_parts.specs.Reads.{CanNote, CanStand, CanStandIn, FindsEntry, GivesKey, HasKeyOf, IsAlongPath, IsInArrival, IsLookedIn, MayHaveKey, MayReadSo, Stands, TakesNumbers, ReadsAmong, ReadsAs, ReadsFor, ReadsNew, ReadsSo, formats_read, found_by, has_positions, orders_in, stood_at};
+ghost use Rattle.library_parts.specs.Reads.{CanNote, CanStand, CanStandAmong, CanStandIn, FindsEntry, GivesKey, HasKeyOf, IsAlongPath, IsInArrival, IsLookedIn, MayHaveKey, MayReadSo, Stands, TakesNumbers, ReadsAmong, ReadsAs, ReadsFor, ReadsNew, ReadsSo, formats_read, found_by, has_positions, orders_in, stood_at};
 
 use crate::contents::Contents;
 use crate::finds::OpenFound;
@@ -36,12 +39,17 @@ use crate::stop::Stop;
 use crate::texts::are_of_bytes;
 use access_path::paths::Paths;
 use dds_logical::LogicalSpec;
+use dds_logical::join_views::{JoinView, JoinedFile};
+use field_types::lists::ListOf;
 use field_types::names::Name;
+use field_types::texts::Image;
 use field_types::values::Value;
 use file_catalogue::{Described, File, FileBody};
 use file_cursor::places::{Hit, Order};
+use file_model::joins::Secondary;
 use file_model::paths::PathSpec;
-use job_table::{Jobs, Open, OpenReads, first_of};
+use job_table::{Jobs, Open, OpenReads, OpenRows, first_of};
+use join_position::position::JoinPosition;
 use key_order::given::{KeyFault, encode_values, key_fault};
 use key_pages::Key;
 use key_spec::{KeyPart, KeySpec};
@@ -49,7 +57,7 @@ use key_values::laws::given_keys_are_read_back;
 use library_model::replies::Reply;
 use library_model::requests::{AccessPath, Limit, OpenFile};
 use lock_table::Call;
-use member_paths::member_path;
+use member_paths::{member_path, path_positions};
 use member_slots::members::Members;
 use open_position::position::{OpenPosition, Side, StandAt};
 use open_position::reads::ReadBy;
@@ -80,7 +88,7 @@ impl Contents {
                 described,
                 first_of(members),
             ),
-            FileBody::Logical(view) => self.reads_view(args.commit, view.spec()),
+            FileBody::Logical(view) => self.reads_logical(args.commit, view.spec()),
         }
     }
 
@@ -91,8 +99,9 @@ impl Contents {
         described: &Described,
         member: u32,
     ) -> Result<OpenReads, AllocError>
-        ensures { IfOk result (λ reads. ReadsNew args.now.commit self.now.room.paths.paths (path_by (bases_in self.now.state.files)
+        ensures new { IfOk result (λ reads. ReadsNew args.now.commit self.now.room.paths.paths (path_by (bases_in self.now.state.files)
             (is_file_path args.now.access_path && has_key (PhysicalFile described.now.spec)) member (PhysicalFile described.now.spec)) reads) }
+        ensures rows { IfOk result (λ reads. reads.rows ≡ None) }
     {
         // Its key is by its fields.
         let _spec = described.spec();
@@ -105,23 +114,63 @@ impl Contents {
         }
     }
 
-    /// How a new open of a logical file reads: by its path, which is by relative record numbers where the file has no key.
-    fn reads_view(&self, commit: bool, spec: &LogicalSpec) -> Result<OpenReads, AllocError>
+    /// How a new open of a logical file reads: by its path, which is by relative record numbers where the file has no key, and of a join
+    /// also by those over the secondary files.
+    fn reads_logical(&self, commit: bool, spec: &LogicalSpec) -> Result<OpenReads, AllocError>
         requires { IsView (bases_in self.now.state.files) spec.now }
-        ensures { IfOk result (λ reads. ReadsNew commit self.now.room.paths.paths (Some (own_path (bases_in self.now.state.files) spec.now)) reads) }
+        ensures new { IfOk result (λ reads. ReadsNew commit self.now.room.paths.paths (Some (own_path (bases_in self.now.state.files) spec.now)) reads) }
+        ensures rows { IfOk result (λ reads. ReadsRowsBy (bases_in self.now.state.files) self.now.room.paths.paths (LogicalFile spec.now) (join_by reads.rows)) }
     {
         let path = self.own_path(spec)?;
-        self.reads_by_path(commit, &path)
+        let reads = self.reads_by_path(commit, &path)?;
+        let rows = self.rows_read(spec)?;
+        Ok(OpenReads {
+            path: reads.path,
+            position: reads.position,
+            rows,
+        })
+    }
+
+    /// How a new open of a join reads its rows; that of another file reads none.
+    fn rows_read(&self, spec: &LogicalSpec) -> Result<Option<OpenRows>, AllocError>
+        requires { IsView (bases_in self.now.state.files) spec.now }
+        ensures start { IfOk result (λ rows. rows_in rows ≡ Start) }
+        ensures rows { IfOk result (λ rows. ReadsRowsBy (bases_in self.now.state.files) self.now.room.paths.paths (LogicalFile spec.now) (join_by rows)) }
+    {
+        match spec {
+            LogicalSpec::Simple(_) | LogicalSpec::Multi(_) => Ok(None),
+            LogicalSpec::Join(view) => Ok(Some(self.rows_joined(spec, view)?)),
+        }
+    }
+
+    /// How a new open of a join reads its rows.
+    fn rows_joined(&self, spec: &LogicalSpec, view: &JoinView) -> Result<OpenRows, AllocError>
+        requires join { spec.now ≡ Join view.now }
+        requires keyed { IsKeyedJoin (bases_in self.now.state.files) view.now }
+        ensures start { IfOk result (λ rows. rows.position.position ≡ Start) }
+        ensures rows { IfOk result (λ rows. ReadsRowsBy (bases_in self.now.state.files) self.now.room.paths.paths (LogicalFile (Join view.now)) (join_by (Some rows))) }
+    {
+        let specs = self.other_paths(spec)?;
+        let paths = numbers_kept(self.alloc, &self.paths, specs.as_slice())?;
+        let parts = path_positions(self.alloc, &view.keys)?;
+        let files = sequences_of(self.alloc, view.secondaries.as_slice())?;
+        let position = JoinPosition::new(self.alloc, parts, files.as_slice())?;
+        Ok(OpenRows { paths, position })
     }
 
     /// How a new open reads by a path.
     fn reads_by_path(&self, commit: bool, path: &PathSpec) -> Result<OpenReads, AllocError>
         requires { AreFormatKeys (map (λ format. format.key) path.now.formats) }
-        ensures { IfOk result (λ reads. ReadsNew commit self.now.room.paths.paths (Some path.now) reads) }
+        ensures new { IfOk result (λ reads. ReadsNew commit self.now.room.paths.paths (Some path.now) reads) }
+        ensures rows { IfOk result (λ reads. reads.rows ≡ None) }
     {
         let position = OpenPosition::by_path(self.alloc, path.formats.as_slice(), commit)?;
         let path = self.paths.number_of(path);
-        Ok(OpenReads { path, position })
+        Ok(OpenReads {
+            path,
+            position,
+            rows: None,
+        })
     }
 
     /// The bytes of the key that a request gives through the open, or its refusal.
@@ -132,8 +181,9 @@ impl Contents {
         key_of_values(self.alloc, opened, values)
     }
 
-    /// The record that a read through the open finds.
+    /// The record that a read through the open finds, of a file that is no join.
     pub fn find(&self, opened: &Open, file: &File, by: ReadBy<'_>) -> Option<Found>
+        requires unjoined { IsUnjoined file.now.spec }
         requires reads { ReadsAs self.now opened.now file.now }
         requires member { ReadsMember self.now.state file.now opened.now.state }
         requires asked { IsAskedOf (formats_read (bases_of (memory_of self.now.state)) file.now opened.now.state) by }
@@ -171,18 +221,18 @@ impl Contents {
         requires running { IsTrue (is_running (job_at job self.old.state.jobs)) }
         requires place { CanStand self.old job name.now to.now }
         ensures memory { (its : OpenedFile) (position : Position PathEntry) → opened_file name.now job (memory_of self.old.state) ≡ Ok its → bound_asked its (side_of side) to.now ≡ Ok position
-            → memory_of self.new.state ≡ with_job job (open_changed its.opened.number (positioned None position)) (memory_of self.old.state) }
+            → memory_of self.new.state ≡ with_job job (open_changed its.opened.number (positioned (join_in its.file.spec) position)) (memory_of self.old.state) }
         ensures entries { self.new.state.entries ≡ self.old.state.entries }
         ensures room { self.new.room ≡ self.old.room }
     {
         let its = self.found_open(job, name);
-        self.reads_there(its.opened, its.file);
+        self.reads_keys(its.opened, its.file);
         let number = its.opened.number();
         let at = place_of(to);
         self.jobs.set_position(job, number, side, at);
     }
 
-    /// Notes that the job's open of that name has read what it finds so. It takes no memory.
+    /// Notes that the job's open of that name, of a file that is no join, has read what it finds so. It takes no memory.
     pub fn note_read(&mut self, job: u32, name: &Name, call: Call, by: ReadBy<'_>)
         requires running { IsTrue (is_running (job_at job self.old.state.jobs)) }
         requires found { CanNote self.old job name.now by }
@@ -202,7 +252,7 @@ impl Contents {
     }
 
     /// The job's open of that name, which is there, and its file.
-    fn found_open(&self, job: u32, name: &Name) -> OpenFound<'_>
+    pub(crate) fn found_open(&self, job: u32, name: &Name) -> OpenFound<'_>
         requires running { IsTrue (is_running (job_at job self.now.state.jobs)) }
         requires named { (its : OpenedFile) × (opened_file name.now job (memory_of self.now.state) ≡ Ok its) }
         ensures found { opened_file name.now job (memory_of self.now.state) ≡ Ok (record { opened = result.opened.now.state; file = result.file.now }) }
@@ -218,14 +268,22 @@ impl Contents {
         }
     }
 
+    /// The positions of the key by which an open reads.
+    fn reads_keys(&self, opened: &Open, file: &File)
+        requires { ReadsAs self.now opened.now file.now }
+        ensures formats { formats_read (bases_of (memory_of self.now.state)) file.now opened.now.state ≡ opened.now.order.formats }
+        ensures keyed { has_positions opened.now.order.formats ≡ is_keyed file.now opened.now.state }
+    {}
+
     /// What an open reads is there: its path, or its member.
     fn reads_there(&self, opened: &Open, file: &File)
+        requires unjoined { IsUnjoined file.now.spec }
         requires reads { ReadsAs self.now opened.now file.now }
         requires member { ReadsMember self.now.state file.now opened.now.state }
         ensures among { ReadsAmong self.now.state.members self.now.room.paths opened.now.state.member opened.now.order.formats opened.now.order.path (reading_of file.now opened.now.state (memory_of self.now.state)) }
         ensures formats { formats_read (bases_of (memory_of self.now.state)) file.now opened.now.state ≡ opened.now.order.formats }
         ensures keyed { has_positions opened.now.order.formats ≡ is_keyed file.now opened.now.state }
-        ensures as_many { length opened.now.order.formats ≡ length opened.now.state.members }
+        ensures few { length opened.now.order.formats ≤ length opened.now.state.members }
     {
         let _files = self.catalogue.len();
         let _paths = self.paths.kept();
@@ -257,17 +315,20 @@ fn is_by_key(args: &OpenFile, keys: &KeySpec) -> bool
 fn reads_in_arrival(alloc: Global, commit: bool) -> Result<OpenReads, AllocError>
     ensures path { IfOk result (λ reads. reads.path ≡ None) }
     ensures position { IfOk result (λ reads. reads.position ≡ record { position = Start; boundary = Start; formats = [] ∷ []; marks = commit }) }
+    ensures rows { IfOk result (λ reads. reads.rows ≡ None) }
 {
     let position = OpenPosition::by_number(alloc, commit)?;
     Ok(OpenReads {
         path: None,
         position,
+        rows: None,
     })
 }
 
 /// A place as a position is set to it.
 fn place_of(to: &Limit) -> StandAt<'_>
     ensures can { (formats : List (List KeyPart)) → CanStandIn formats to.now → IsStandAt formats result }
+    ensures rows { (parts : List KeyPart) → CanStandAmong parts to.now → rows.IsStandAt parts result }
     ensures stood { (side : Side) (parts : List KeyPart) → stood side parts result ≡ stood_at side parts to.now }
 {
     match to {
@@ -321,6 +382,47 @@ fn hit_in<'a>(members: &'a Members, opened: &Open, by: ReadBy<'_>) -> Option<Hit
 {
     let member = members.at(opened.member()).unwrap();
     opened.stand().find(Order::Arrival(member), by)
+}
+
+/// The numbers of some paths that are kept.
+fn numbers_kept(
+    alloc: Global,
+    paths: &PathSet,
+    specs: &[PathSpec],
+) -> Result<ListOf<u64>, AllocError>
+    ensures { IfOk result (λ ids. AreNumbersOf paths.now.paths specs.now ids) }
+{
+    let mut ids = ListOf::new(alloc);
+    for spec in specs {
+        let Some(id) = paths.number_of(spec) else {
+            return Err(AllocError);
+        };
+        ids.push(id)?;
+    }
+    Ok(ids)
+}
+
+/// Secondary files of which nothing counts but the position of JDUPSEQ.
+fn sequences_of(alloc: Global, files: &[JoinedFile]) -> Result<Vec<Secondary>, AllocError>
+    ensures { IfOk result (λ made. map (λ file. file.sequence) made.items ≡ map (λ joined. joined.sequence) files.now) }
+{
+    let mut made = Vec::new(alloc);
+    for joined in files {
+        made.push(sequence_of(alloc, joined.sequence))?;
+    }
+    Ok(made)
+}
+
+fn sequence_of(alloc: Global, sequence: KeyPart) -> Secondary
+    ensures { result.sequence ≡ sequence }
+{
+    Secondary {
+        member: 0,
+        from: 0,
+        pairs: ListOf::new(alloc),
+        sequence,
+        default: Image::from_vec(Vec::new(alloc)),
+    }
 }
 
 /// The bytes of values for the first positions of the open's key, or their refusal.

@@ -141,7 +141,7 @@ any-last first last (spec ∷ specs) = by (same_path first spec) (any-last first
     by false rest = rest
 
 -- a path at the end counts as much as at the front
-count-last : (path : PathSpec) (specs : List PathSpec) → count_paths (specs ++ path ∷ []) ≡ count_paths (path ∷ specs)
+pub count-last : (path : PathSpec) (specs : List PathSpec) → count_paths (specs ++ path ∷ []) ≡ count_paths (path ∷ specs)
 count-last path [] = refl
 count-last path (spec ∷ specs) =
     ap (λ (b : Bool). cond b (count_paths (specs ++ path ∷ [])) (count_paths (specs ++ path ∷ []) + 1)) (any-last spec path specs)

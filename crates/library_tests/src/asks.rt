@@ -93,6 +93,8 @@ pub enum RecordAsk {
     LowerLimit(u32),
     /// SETGT RRN
     GreaterThan(u32),
+    /// SETLL KEY
+    LowerLimitBy(&'static [Given]),
     /// READ, with a lock by the open's option
     Read,
     /// READ LCK(*NO)
@@ -102,6 +104,10 @@ pub enum RecordAsk {
     ReadEqual(&'static [u8]),
     /// READPE of a character value
     ReadPriorEqual(&'static [u8]),
+    /// READE KEY
+    ReadEqualTo(&'static [Given]),
+    /// CHAIN KEY
+    ChainTo(&'static [Given]),
     /// CHAIN RRN LCK(*NO)
     Chain(u32),
     /// CHAIN RRN, with a lock by the open's option
@@ -152,6 +158,14 @@ fn values_of(alloc: Global, given: &[Given]) -> Option<GivenValues> {
 fn key_of(alloc: Global, bytes: &[u8]) -> Option<Values> {
     let mut key = Vec::new(alloc);
     key.push(chars(alloc, bytes)?).ok()?;
+    Some(Values::from_vec(key))
+}
+
+fn key_to(alloc: Global, given: &[Given]) -> Option<Values> {
+    let mut key = Vec::new(alloc);
+    for value in given {
+        key.push(value_of(alloc, *value)??).ok()?;
+    }
     Some(Values::from_vec(key))
 }
 
@@ -270,11 +284,25 @@ fn record_request(alloc: Global, open_id: Name, ask: RecordAsk) -> Option<Reques
         RecordAsk::Close => Request::CloseFile(plain),
         RecordAsk::LowerLimit(rrn) => Request::SetLowerLimit(position(open_id, rrn)),
         RecordAsk::GreaterThan(rrn) => Request::SetGreaterThan(position(open_id, rrn)),
+        RecordAsk::LowerLimitBy(key) => Request::SetLowerLimit(SetPosition {
+            open_id,
+            to: Limit::Key(key_to(alloc, key)?),
+        }),
         RecordAsk::Read => Request::Read(reading(open_id, LockOption::Default)),
         RecordAsk::ReadUnlocked => Request::Read(reading(open_id, LockOption::No)),
         RecordAsk::ReadPrior => Request::ReadPrior(reading(open_id, LockOption::Default)),
         RecordAsk::ReadEqual(key) => Request::ReadEqual(equal(alloc, open_id, key)?),
         RecordAsk::ReadPriorEqual(key) => Request::ReadPriorEqual(equal(alloc, open_id, key)?),
+        RecordAsk::ReadEqualTo(key) => Request::ReadEqual(ReadEqual {
+            open_id,
+            key: key_to(alloc, key)?,
+            lock: LockOption::Default,
+        }),
+        RecordAsk::ChainTo(key) => Request::Chain(ChainRecord {
+            open_id,
+            to: ChainTo::Key(key_to(alloc, key)?),
+            lock: LockOption::Default,
+        }),
         RecordAsk::Chain(rrn) => Request::Chain(chaining(open_id, rrn, LockOption::No)),
         RecordAsk::ChainLocked(rrn) => Request::Chain(chaining(open_id, rrn, LockOption::Default)),
         RecordAsk::Write(given) => Request::Write(writing(alloc, open_id, None, None, given)?),

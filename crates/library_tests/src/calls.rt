@@ -1,16 +1,16 @@
 //! Tables of calls: each reply against the one that the manual's rules give by hand, and that memory is left for each.
-//! The tables stand in `tables.rt`, `setups.rt`, `cycles.rt`, `ranges.rt`, `undone.rt` and `views.rt`.
+//! The tables stand in `tables.rt`, `setups.rt`, `cycles.rt`, `ranges.rt`, `undone.rt`, `views.rt` and `joins.rt`.
 ghost use Rattle.std.specs.Prelude.{◌≡◌, false, IfSome, IsTrue};
-ghost use Rattle.answered_sources.specs.Answered.{AreAnswered};
 ghost use Rattle.built_requests.specs.Built.{is_built};
 ghost use Rattle.library_model.specs.Ending.{is_end_job};
 ghost use Rattle.deposited_entries.specs.Deposits.{AreShort};
-ghost use Rattle.library_core.specs.Stands.{IsReady};
+ghost use Rattle.kept_library.specs.Stands.{IsReady};
 ghost use Rattle.library_tests.specs.Fresh.{IsFresh};
 
 use crate::answers::{Answer, is_answer};
 use crate::asks::{Ask, By, named, request_of};
 use crate::cycles::{CYCLES, LEVELS, POSITIONS};
+use crate::joins::{CHAINED, JOINED};
 use crate::ranges::RANGES;
 use crate::setups::{CHANGES, JOURNAL_CALLS, LOCKS};
 use crate::tables::{DELETED, RECORDS, SOURCES};
@@ -32,8 +32,7 @@ use std::process::Abort;
 use store_model::MemoryStore;
 
 fn sources_of(alloc: Global) -> Option<Sources>
-    ensures answered { IfSome result (λ sources. AreAnswered sources) }
-    ensures short { IfSome result (λ sources. AreShort sources) }
+    ensures { IfSome result (λ sources. AreShort sources) }
 {
     sources_are_no_longer_than_their_input();
     if SOURCES.len() > 100_000 {
@@ -62,7 +61,7 @@ fn made_library(alloc: Global) -> Option<Library<MemoryStore>>
     let mut store = MemoryStore::new(alloc);
     format_library(alloc, &mut store).ok()?;
     match open_library(alloc, store) {
-        Ok(library) => Some(library),
+        Ok(library) => Some(Library::of(library)),
         Err(_) => None,
     }
 }
@@ -94,7 +93,6 @@ fn ask_library(
     requires second { IsReady jobs.second library.old }
     requires built { IsTrue (is_built request.now) }
     requires goes_on { is_end_job request.now ≡ false }
-    requires answered { AreAnswered sources.now }
     requires short { AreShort sources.now }
     ensures first { library.new.failed ≡ false → IsReady jobs.first library.new }
     ensures second { library.new.failed ≡ false → IsReady jobs.second library.new }
@@ -197,6 +195,16 @@ fn calls_on_after_images_are_answered(rt: HostRuntime) {
 #[test]
 fn calls_on_several_formats_are_answered(rt: HostRuntime) {
     check_rows(&rt, rt.alloc(), "several formats", &MERGED);
+}
+
+#[test]
+fn calls_on_a_join_are_answered(rt: HostRuntime) {
+    check_rows(&rt, rt.alloc(), "a join", &JOINED);
+}
+
+#[test]
+fn calls_on_a_join_of_three_files_are_answered(rt: HostRuntime) {
+    check_rows(&rt, rt.alloc(), "a join of three files", &CHAINED);
 }
 
 #[test]

@@ -10,6 +10,8 @@ mod calls;
 #[cfg(test)]
 mod cycles;
 #[cfg(test)]
+mod joins;
+#[cfg(test)]
 mod ranges;
 #[cfg(test)]
 mod setups;

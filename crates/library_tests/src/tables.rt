@@ -68,6 +68,49 @@ pub const SOURCES: &str = "//DDS CUST
      A          K NAME
 //DDS NOBASE
      A          R NOBASER                   PFILE(NONE)
+//DDS BUYER
+     A          R BUYERR
+     A            NO             3P 0
+     A            NAME           1A
+//DDS SALE
+     A          R SALER
+     A            ID             3P 0
+     A            BUYNO          3P 0
+     A            AMT            3P 0
+//DDS PIECE
+     A          R PIECER
+     A            SALEID         3P 0
+     A            CODE           1A
+//DDS KEPT
+     A                                      JDFTVAL
+     A          R KEPTR                     JFILE(BUYER SALE)
+     A          J                           JOIN(BUYER SALE) JFLD(NO BUYNO)
+     A                                      JDUPSEQ(AMT *DESCEND)
+     A            NO
+     A            ID
+     A            AMT
+     A          K NO
+//DDS MATCHED
+     A          R MATCHEDR                  JFILE(BUYER SALE)
+     A          J                           JFLD(NO BUYNO)
+     A            NO
+     A            ID
+     A          K NO
+//DDS THREE
+     A          R THREER                    JFILE(BUYER SALE PIECE)
+     A          J                           JOIN(BUYER SALE) JFLD(NO BUYNO)
+     A          J                           JOIN(SALE PIECE) JFLD(ID SALEID)
+     A            NAME
+     A            ID
+     A            CODE
+//DDS THREEKEPT
+     A                                      JDFTVAL
+     A          R THREEKR                   JFILE(BUYER SALE PIECE)
+     A          J                           JOIN(BUYER SALE) JFLD(NO BUYNO)
+     A          J                           JOIN(SALE PIECE) JFLD(ID SALEID)
+     A            NAME
+     A            ID
+     A            CODE
 //END
 ";
 

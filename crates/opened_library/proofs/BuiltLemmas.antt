@@ -13,9 +13,9 @@ use Rattle.restart_model.specs.Libraries.{journal_with, library_left}
 use Rattle.library_steps.specs.declared.limits.TheConstants.{MOST_LIBRARY_BYTES}
 use Rattle.library_steps.specs.State.{State, JobState}
 use Rattle.library_steps.specs.Ranges.{library_bytes}
-use Rattle.library_core.specs.Journaled.{IsJournaled, MayDeposit}
-use Rattle.library_core.specs.Parts.{LibraryOver}
-use Rattle.library_core.specs.Stands.{Stands}
+use Rattle.kept_library.specs.Journaled.{IsJournaled, MayDeposit}
+use Rattle.kept_library.specs.Parts.{LibraryOver}
+use Rattle.kept_library.specs.Stands.{Stands}
 use Rattle.opened_library.specs.Opened.{IsBuilt}
 
 -- ---- what the entries leave

@@ -15,7 +15,7 @@ use Rattle.library_steps.specs.SlotChange.{change_bytes}
 use Rattle.library_steps.specs.Uses.{changes_in}
 use Rattle.deposited_entries.specs.Counted.{HasBytes}
 use Rattle.deposited_entries.specs.Sequences.{sequences_due}
-use Rattle.library_core.specs.Journaled.{MayDeposit}
+use Rattle.kept_library.specs.Journaled.{MayDeposit}
 
 -- members are counted from 1 where none has the number 0
 counted-first : (number : ℕ) (member : MemberState) (others : Option MemberState) → (if number == 0 then Some member else others) ≡ None → (1 ≤ number) × (others ≡ None)

@@ -18,7 +18,7 @@ use Rattle.library_steps.specs.declared.limits.TheConstants.{MOST_LIBRARY_BYTES}
 use Rattle.library_steps.specs.State.{State}
 use Rattle.library_steps.specs.Ranges.{library_bytes}
 use Rattle.joint_state.specs.Sound.{IsSound}
-use Rattle.library_core.specs.Parts.{LibraryOver}
+use Rattle.kept_library.specs.Parts.{LibraryOver}
 use Rattle.opened_library.specs.Opened.{IsAtRest, IsBuilt, IsNotOpened, IsOpenedLibrary, Restarts}
 
 -- a restart by this job at this time is what the definitions call one
@@ -55,7 +55,7 @@ opened {S = S} law tells disk old store library book entries s same restarted re
     built.state ∙ ap (λ (all : List Entry). library_left (λ _. 0) built.attached (journal_with all)) restarted.ended.ended in
     record {
       before = before;
-      from = record { replays = restarted.replays; spelled = restarted.spelled; attached = built.attached; left = is };
+      from = record { replays = restarted.replays; deposited = restarted.deposited; spelled = restarted.spelled; attached = built.attached; left = is };
       restart = subst (λ (it : S). Restarts tells old (disk it)) (sym same) restarts;
       sound = subst IsSound (sym is) (law before built.attached 0 restarted.replays restarted.deposited (subst (λ (t : State). library_bytes t.members ≤ MOST_LIBRARY_BYTES) is built.few));
       none = ap (λ (t : State). t.jobs) is;

@@ -12,6 +12,7 @@ use Rattle.journal_book.specs.Kept.{SpellEntries}
 use Rattle.journal_opening.specs.Journals.{IsLeftBy, SpellJournal, journal_with}
 use Rattle.journal_opening.specs.declared.fault.OpenFault.{OpenFault}
 use Rattle.journal_opening.specs.declared.fault.OpenFault.TheVariants.{NotALibrary, Damaged, StoreFault, NoMemory}
+use Rattle.journaled_entries.specs.Deposited.{AreDeposited}
 use Rattle.restart_model.specs.Sources.{descriptions}
 use Rattle.restart_model.specs.Libraries.{library_left, library_restarted, restart_job}
 use Rattle.restarted_journal.specs.Restarts.{MayRestart}
@@ -19,11 +20,12 @@ use Rattle.library_steps.specs.declared.limits.TheConstants.{MOST_LIBRARY_BYTES}
 use Rattle.library_steps.specs.State.{State}
 use Rattle.library_steps.specs.Ranges.{library_bytes}
 use Rattle.joint_state.specs.Sound.{IsSound}
-use Rattle.library_core.specs.Parts.{LibraryOver}
+use Rattle.kept_library.specs.Parts.{LibraryOver}
 
 -- the store spelled these entries, and the state is what they leave once a restart has ended them
 pub record IsOpenedFrom (tells : Type 0) (old : Disk) (before : List Entry) (s : State) : Type 0 where
   pub replays : CanReplayJournal descriptions (journal_with before)
+  pub deposited : AreDeposited before
   pub spelled : tells → SpellJournal descriptions before old.seen
   pub attached : ℕ
   pub left : s ≡ library_restarted (λ _. 0) attached 0 (journal_with before)

@@ -10,7 +10,7 @@ ghost use Rattle.opened_library.specs.Opened.{IsAtRest, IsBuilt};
 use crate::judging::may_deposit;
 use journal_opening::OpenFault;
 use kept_journal::KeptJournal;
-use library_core::library::Library;
+use kept_library::KeptLibrary;
 use library_parts::Contents;
 use restarted_journal::RestartedJournal;
 use restarted_library::restarted_contents;
@@ -22,7 +22,7 @@ pub(crate) fn build_library<S: Store>(
     alloc: Global,
     store: S,
     restarted: RestartedJournal,
-) -> Result<Library<S>, (OpenFault, S)>
+) -> Result<KeptLibrary<S>, (OpenFault, S)>
     requires { IsAtRest S.tells (S.disk store) restarted.journal restarted.entries.items restarted.replay }
     ensures built { IfOk result (λ library. IsBuilt S.tells (S.disk store) restarted.entries.items library) }
     ensures store { IfOk result (λ library. library.store ≡ store) }
@@ -48,7 +48,7 @@ fn begin_library<S: Store>(
     journal: KeptJournal,
     contents: Contents,
     count: usize,
-) -> Result<Library<S>, (OpenFault, S)>
+) -> Result<KeptLibrary<S>, (OpenFault, S)>
     requires left { contents.state ≡ library_left (λ _. 0) (attached_of journal.chain) (journal_with contents.state.entries) }
     requires held { S.tells → Holds journal contents.state.entries (S.disk store) }
     requires nothing_waits { journal.waiting ≡ 0 }
@@ -66,10 +66,7 @@ fn begin_library<S: Store>(
     }
     // The members are within the bytes that a library may have.
     let _bytes = contents.member_bytes();
-    let library = Library::over(store, journal, contents);
-    // All of its journal is on the disk.
-    let _failed = library.failed();
-    Ok(library)
+    Ok(KeptLibrary::over(store, journal, contents))
 }
 
 /// Whether a journal that begins with the first sequence comes to this one, and little of it waits.

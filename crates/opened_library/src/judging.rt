@@ -4,7 +4,7 @@ ghost use Rattle.std.specs.List.{AllByRecursion};
 ghost use Rattle.library_steps.specs.declared.limits.TheConstants.{LAST_SEQUENCE};
 ghost use Rattle.library_steps.specs.State.{memory_of};
 ghost use Rattle.deposited_entries.specs.Counted.{HasBytes};
-ghost use Rattle.library_core.specs.Journaled.{MayDeposit};
+ghost use Rattle.kept_library.specs.Journaled.{MayDeposit};
 
 use file_catalogue::{Catalogue, File};
 use library_parts::Contents;

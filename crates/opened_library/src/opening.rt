@@ -7,7 +7,7 @@ use crate::building::build_library;
 use described_journals::DataDescriptions;
 use field_types::names::Name;
 use journal_opening::OpenFault;
-use library_core::library::Library;
+use kept_library::KeptLibrary;
 use restart_drafts::By;
 use restart_laws::laws::{descriptions_keep_lengths, restarted_libraries_are_sound};
 use restarted_journal::restart_journal;
@@ -16,7 +16,7 @@ use store_model::Store;
 
 /// Opens the library that a store keeps: what a stop left of its journal is replayed, and what is open at its end rolled back.
 /// After a refusal the store is handed back, and can be opened again.
-pub fn open_library<S: Store>(alloc: Global, store: S) -> Result<Library<S>, (OpenFault, S)>
+pub fn open_library<S: Store>(alloc: Global, store: S) -> Result<KeptLibrary<S>, (OpenFault, S)>
     ensures opened { IfOk result (λ library. IsOpenedLibrary S.tells (S.disk store) (S.disk library.store) library) }
     ensures refused { IfErr result (λ refused. IsNotOpened refused.0 S.tells (S.disk store) (S.disk refused.1)) }
 {

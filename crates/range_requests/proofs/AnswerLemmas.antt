@@ -11,7 +11,7 @@ use Rattle.library_parts.specs.Answers.{Answers, MayAllow}
 use Rattle.library_parts.specs.declared.stop.Stop.{Stop}
 use Rattle.library_parts.specs.declared.stop.Stop.TheVariants.{NoMemory, Refused}
 use Rattle.library_steps.specs.Refusals.{◌>>=◌}
-use Rattle.draft_list.specs.Deposits.{Leaves}
+use Rattle.library_parts.specs.Deposits.{Leaves}
 use Rattle.range_requests.specs.declared.plans.Plan.{Plan}
 use Rattle.library_parts.specs.Given.{with_given}
 use Rattle.range_requests.specs.Plans.{IsPlanOf, keys_apart, range_answer}

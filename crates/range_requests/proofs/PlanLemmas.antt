@@ -36,7 +36,7 @@ use Rattle.library_parts.specs.declared.stop.Stop.TheVariants.{NoMemory, Refused
 use Rattle.library_parts.specs.Answers.{Allows}
 use Rattle.lawful_states.specs.Lawful.{HoldsValues}
 use Rattle.lawful_states.proofs.MemberLemmas.{HasRecords-member_of, IsThere-IsSome, library_bytes-with}
-use Rattle.draft_list.specs.Sizes.{draft_bytes, draft_size}
+use Rattle.library_parts.specs.Sizes.{draft_bytes, draft_size}
 use Rattle.range_images.specs.declared.slot_given.SlotGiven.{SlotGiven}
 use Rattle.range_images.specs.Given.{given_slots}
 use Rattle.range_requests.specs.declared.found.Found.{Found}

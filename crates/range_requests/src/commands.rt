@@ -11,11 +11,10 @@ ghost use Rattle.library_parts.specs.Given.{AreMovesOfAll, HasRoomFor, MayGive};
 ghost use Rattle.range_requests.specs.Steps.{IsWithin};
 
 use crate::plans::{Plan, plan_apply, plan_remove};
-use draft_list::{deposit_all, deposits_leave, reserve_all};
 use given_changes::slots_after;
 use library_model::replies::Reply;
 use library_model::requests::JournaledChanges;
-use library_parts::{Contents, Stop};
+use library_parts::{Contents, Stop, deposit_all, deposits_leave, reserve_all};
 use path_set::moves::Moves;
 use std::alloc::AllocError;
 

@@ -9,11 +9,10 @@ ghost use Rattle.library_parts.specs.Answers.{Allows};
 ghost use Rattle.range_requests.specs.Plans.{Finds, IsKept};
 
 use crate::ends::ends_named;
-use draft_list::may_deposit;
 use file_catalogue::File;
 use library_model::replies::Reply;
 use library_model::requests::{JournaledChanges, RangeEnd};
-use library_parts::{Contents, MemberFound, Stop};
+use library_parts::{Contents, MemberFound, Stop, may_deposit};
 
 /// The range of a member's journal between two sequences, and the file that has the member.
 #[derive(Clone, Copy)]

@@ -19,13 +19,12 @@ use crate::found::{Found, range_named};
 use crate::kept::{entry_before, kept_entries};
 use crate::tells::{Deed, Teller, Way, told};
 use crate::walks::{Walk, backward, forward};
-use draft_list::Author;
-use draft_list::sizes::bytes_of;
 use entry_codec::{Draft, Entry};
 use given_changes::slots_after;
 use library_model::replies::{LimitKind, Reply};
 use library_model::requests::JournaledChanges;
-use library_parts::{Contents, Stop};
+use library_parts::sizes::bytes_of;
+use library_parts::{Author, Contents, Stop};
 use library_steps::limits::{MOST_BLOCK_BYTES, MOST_LIBRARY_BYTES};
 use range_images::SlotGiven;
 

@@ -8,9 +8,9 @@ ghost use Rattle.range_images.specs.Given.{AreInPlace};
 ghost use Rattle.range_requests.specs.Kinds.{kind_of};
 ghost use Rattle.range_requests.specs.Walks.{as_given};
 
-use draft_list::Author;
 use entry_codec::{Draft, EntryKind};
 use given_changes::stood;
+use library_parts::Author;
 use member_slots::member::Member;
 use member_slots::slot::Slot;
 use range_images::SlotGiven;

@@ -19,13 +19,13 @@ use Rattle.library_model.specs.Named.{Named, named}
 use Rattle.library_steps.specs.LogicalFiles.{base_in, bases_in}
 use Rattle.library_steps.specs.State.{State, FileState, MemberStatus, OpenState, fields_of, format_in, physical_among}
 use Rattle.library_parts.specs.Finds.{IsBaseOf, ReadsMember}
-use Rattle.library_parts.specs.Indexed.{IsView, IsViewBeside}
+use Rattle.library_parts.specs.Indexed.{IsViewBeside}
 use Rattle.lawful_states.specs.Lawful.{HasRecords, IsBased, IsLibrary}
 use Rattle.lawful_states.proofs.BaseLemmas.{physical-here, some-is}
 use Rattle.lawful_states.proofs.MemberLemmas.{HasRecords-member_of}
 use Rattle.view_records.specs.Through.{IsFormatOf, HaveBytes}
 use Rattle.joint_state.specs.Views.{HaveDefaults}
-use Rattle.record_changes.specs.Images.{IsWritable, IsWrittenIn, fields_under, fields_of_view}
+use Rattle.record_changes.specs.Images.{IsWritable, IsWrittenIn, fields_under, fields_of_view, fields_at}
 use Rattle.record_changes.specs.Places.{FitsMember}
 use Rattle.record_changes.proofs.PlaceLemmas.{its-fits, its-there, its-values}
 
@@ -62,7 +62,7 @@ module _ (s : State) (file : FileState) (opened : OpenState) (lawful : IsLibrary
           sym (ap (λ (f : FileSpec). (format_in f).fields) is) ∙ ap fields_of (some-equal found)
       by (LogicalFile (Simple view)) is over = base-fields view.base over
       by (LogicalFile (Multi views)) is over = ap (fields_of_view (bases_in s.files)) over.1 ∙ base-fields over.0.base over.2
-      by (LogicalFile (Join view)) is over = absurd over
+      by (LogicalFile (Join view)) is over = ap (fields_at (bases_in s.files)) over ∙ base-fields has.base refl
 
   -- values that are given through its format make records of it
   writable : (view : View) → has.base ≡ view.base → IsKeyedView (bases_in s.files view.base).fields view → HaveBytes view.mapping → IsFormatOf view → HaveDefaults s.files → IsWritable s.files view
@@ -89,7 +89,7 @@ module _ (s : State) (file : FileState) (opened : OpenState) (lawful : IsLibrary
           let bytes : HaveBytes view.mapping = each-there (λ (v : View). HaveBytes v.mapping) views opened.format view its.bytes over.1 in
           let format : IsFormatOf view = each-there IsFormatOf views opened.format view its.formats over.1 in
           (view, over.1, writable view over.2 keyed bytes format defaults)
-      by (LogicalFile (Join view)) over its = absurd over
+      by (LogicalFile (Join view)) over its = tt
 
   -- what stands in the member is a record with these fields
   pub record-of : (image : List ℕ) → FitsMember s opened.member (Live image) → HoldsRecord (fields_under (bases_in s.files) file.spec opened.format) image

@@ -1,5 +1,5 @@
 -- What the definition makes of a WRITE through an open, once it may be written.
-use Rattle.std.proofs.Common.{◌≡◌, ℕ, Bool, true, None, Result, Ok, List, [], ◌∷◌, unwrap_or, slice_get, ◌∙◌, sym, ap}
+use Rattle.std.proofs.Common.{◌≡◌, ℕ, Bool, true, None, Result, Ok, ◌∙◌, ap}
 use Rattle.logical_model.specs.Formats.{given_in}
 use Rattle.library_model.specs.declared.requests.WriteRecord.{WriteRecord}
 use Rattle.library_model.specs.declared.replies.Reply.{Reply}

@@ -1,11 +1,8 @@
 -- How a plan answers for a slot to change or a record to unlock: with it, the refusal, or out of memory. (Our own.)
-use Rattle.std.specs.Prelude.{◌≡◌, ℕ, Option, None, Some, Result, Ok, Err, List, if◌then◌else◌}
-use Rattle.std.specs.Str.{bytes_eq}
+use Rattle.std.specs.Prelude.{◌≡◌, ℕ, None, Result, Ok, Err}
 use Rattle.logical_model.specs.Formats.{given_in}
 use Rattle.library_model.specs.declared.requests.WriteRecord.{WriteRecord}
 use Rattle.library_model.specs.declared.replies.Reply.{Reply}
-use Rattle.library_model.specs.declared.replies.Reply.TheVariants.{NoSuchName}
-use Rattle.library_model.specs.declared.replies.Missing.TheVariants.{Name}
 use Rattle.library_steps.specs.State.{Memory, FileState, OpenState}
 use Rattle.library_steps.specs.LogicalFiles.{bases_of}
 use Rattle.library_steps.specs.Refusals.{◌>>=◌, OpenedFile}

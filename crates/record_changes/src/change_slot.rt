@@ -18,10 +18,9 @@ ghost use Rattle.record_changes.specs.Plans.{new_slot};
 use crate::cycles::{cycle_begun, cycle_of};
 use crate::entries::ChangeEntries;
 use crate::planned::{PlannedSlot, Prepared, UndoSlots};
-use draft_list::Author;
 use entry_codec::Images;
 use job_table::Undo;
-use library_parts::{Contents, SlotTaken};
+use library_parts::{Author, Contents, SlotTaken};
 use member_slots::slot::Slot;
 use path_set::moves::Moves;
 

@@ -5,13 +5,12 @@ ghost use Rattle.library_steps.specs.declared.limits.TheConstants.{LAST_SEQUENCE
 ghost use Rattle.library_steps.specs.State.{memory_of};
 ghost use Rattle.library_steps.specs.Drafts.{added, record_draft};
 ghost use Rattle.memory_journal.specs.declared.journal.TheConstants.{LAST_BEFORE_DEPOSIT};
-ghost use Rattle.draft_list.specs.Deposits.{with_drafts};
+ghost use Rattle.library_parts.specs.Deposits.{with_drafts};
 ghost use Rattle.record_changes.specs.Changes.{drafts_by, started};
 
-use draft_list::Author;
 use entry_codec::EntryKind;
 use field_types::texts::Image;
-use library_parts::Contents;
+use library_parts::{Author, Contents};
 use member_slots::slot::Slot;
 
 /// Of which record the entries are, and how it is changed.

@@ -22,6 +22,7 @@ ghost use Rattle.record_changes.specs.Images.{IsWritable, IsWrittenIn, fields_un
 ghost use Rattle.record_changes.specs.Places.{FitsMember};
 
 use dds_logical::{LogicalSpec, View};
+use field_types::faults::RecordFault;
 use field_types::names::Name;
 use field_types::texts::Image;
 use field_types::values::Value;
@@ -145,7 +146,8 @@ fn format_image(
         LogicalSpec::Multi(views) => {
             image_among(contents, views.as_slice(), usize::from(number), given, old)
         }
-        LogicalSpec::Join(_) => unreachable!(),
+        // It shows fields of several files: no value can be given.
+        LogicalSpec::Join(_) => Err(Stop::Refused(Reply::BadValue(RecordFault::Count))),
     }
 }
 

@@ -18,10 +18,9 @@ use crate::locks::{leave_locks, may_lock};
 use crate::planned::{PlannedSlot, Prepared, Through};
 use crate::prepare::prepare_change;
 use crate::refusals::{current_record, few_changes, keys_free, may_change};
-use draft_list::may_deposit;
 use library_model::replies::Reply;
 use library_model::requests::UpdateRecord;
-use library_parts::{Contents, OpenFound, Stop};
+use library_parts::{Contents, OpenFound, Stop, may_deposit};
 use lock_table::Call;
 use member_slots::slot::Slot;
 

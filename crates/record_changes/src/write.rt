@@ -9,7 +9,7 @@ ghost use Rattle.library_steps.specs.Records.{slot_there};
 ghost use Rattle.library_steps.specs.WriteRecord.{next_place, place_asked, write_call, write_change, write_plan, write_record};
 ghost use Rattle.library_parts.specs.Answers.{Answers, Gives};
 ghost use Rattle.library_parts.specs.Finds.{ReadsMember};
-ghost use Rattle.library_parts.specs.Indexed.{IsUnjoined, IsViewBeside};
+ghost use Rattle.library_parts.specs.Indexed.{IsViewBeside};
 ghost use Rattle.library_parts.specs.Locks.{HasLockRoom};
 ghost use Rattle.lawful_states.specs.Calls.{IsWrite};
 ghost use Rattle.joint_state.specs.Views.{HaveDefaults};
@@ -23,12 +23,11 @@ use crate::locks::leave_locks;
 use crate::planned::{PlannedSlot, Prepared, Through};
 use crate::prepare::prepare_change;
 use crate::refusals::{added_keys_free, format_asked, may_change};
-use draft_list::may_deposit;
 use file_catalogue::File;
 use job_table::OpenAt;
 use library_model::replies::Reply;
 use library_model::requests::WriteRecord;
-use library_parts::{Contents, OpenFound, Stop};
+use library_parts::{Contents, OpenFound, Stop, may_deposit};
 use lock_table::Call;
 use member_slots::slot::Slot;
 
@@ -79,7 +78,6 @@ fn plan_given(
 ) -> Result<PlannedSlot, Stop>
     requires running { IsTrue (is_running (job_at job contents.now.state.jobs)) }
     requires there { ReadsMember contents.now.state file.now opened.now.state }
-    requires unjoined { IsUnjoined file.now.spec }
     requires view { IsViewBeside contents.now.state.files file.now.spec }
     requires defaults { HaveDefaults contents.now.state.files }
     ensures plan { PlansSlot result (given_plan (memory_of contents.now.state) job (opened_with opened.now.state file.now) args.now) }

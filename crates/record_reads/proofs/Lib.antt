@@ -5,3 +5,5 @@ pub mod ReadLemmas
 pub mod EffectLemmas
 pub mod LockLemmas
 pub mod ShownLemmas
+pub mod FoundLemmas
+pub mod RowLemmas

@@ -1,5 +1,6 @@
 -- A record that stands in a member shows a value of each field, of its own file and of a logical file over it.
-use Rattle.std.proofs.Common.{◌≡◌, ℕ, ◌+◌, true, Option, Some, None, Result, IfOk, List, [], ◌∷◌, length, drop, is_some, unwrap_or, refl, subst, sym, ◌∙◌, ap, zero, suc, map, slice_get, IsSome, option_map}
+use Rattle.std.proofs.Common.{◌≡◌, ℕ, ◌+◌, true, Option, Some, None, Result, IfOk, List, [], ◌∷◌, length, drop, is_some, unwrap_or, refl, subst}
+use Rattle.std.proofs.Common.{sym, ◌∙◌, ap, zero, suc, map, slice_get, IsSome, option_map}
 use Rattle.dds_logical.specs.declared.views.View.{View}
 use Rattle.std.specs.List.{AllByRecursion}
 use Rattle.std.proofs.lemmas.List.{take-append-drop}
@@ -104,7 +105,8 @@ shows-image s file opened image member lawful unjoined beside is = by file.spec 
         let format : IsFormatOf view = each-there IsFormatOf views opened.format view its.formats over.1 in
         let stands : StandsOver s.files file.members (Multi views) = subst (IsBased s.files opened.file file.members) same (lawful.bases opened.file file member.there) in
         let there : IsSome (physical_among view.base s.files) =
-        each-there (λ (n : List ℕ). IsSome (physical_among n s.files)) (map (λ (v : View). v.base) views) opened.format view.base stands.bases (mapped-there (λ (v : View). v.base) views opened.format view over.1) in
+        each-there (λ (n : List ℕ). IsSome (physical_among n s.files)) (map (λ (v : View). v.base) views) opened.format view.base stands.bases
+        (mapped-there (λ (v : View). v.base) views opened.format view over.1) in
         let fields : (bases_in s.files view.base).fields ≡ fields_of member.owner = under view.base over.2 (has-base s lawful view.base there) in (
           view,
           over.1,
@@ -124,7 +126,7 @@ shows-image s file opened image member lawful unjoined beside is = by file.spec 
 pub shown-as : {E : Type 0} (result : Result RecordRead E) (m : Memory) (file : FileState) (opened : OpenState) (rrn : ℕ) (spec : FileSpec) (image : List ℕ)
     → spec ≡ file.spec → live_record opened.member rrn m ≡ Some image
     → IfOk result (λ (shown : RecordRead). shown ≡ read_as rrn (shown_in (bases_of m) m.members spec opened.format image None))
-    → IfOk result (λ (shown : RecordRead). shown ≡ record_shown m file opened rrn)
+    → IfOk result (λ (shown : RecordRead). shown ≡ record_shown m file opened rrn None)
 shown-as result m file opened rrn spec image is live shows =
     subst (λ (wanted : RecordRead). IfOk result (λ (shown : RecordRead). shown ≡ wanted))
     (λ i. read_as rrn (shown_in (bases_of m) m.members (is i) opened.format (unwrap_or (sym live i) []) None)) shows

@@ -1,8 +1,7 @@
--- What an open of a file of one format finds, and by what it can be asked.
-use Rattle.std.proofs.Common.{◌≡◌, ℕ, ◌||◌, Bool, true, false, not, if◌then◌else◌, Option, None, Result, Ok, Err, is_ok, List, [], ◌∷◌, unwrap_or, slice_get}
-use Rattle.std.proofs.Common.{refl, sym, ◌∙◌, ap}
+-- What an open of a file that is no join finds, and by what an open can be asked.
+use Rattle.std.proofs.Common.{◌≡◌, ℕ, ◌||◌, Bool, true, false, not, if◌then◌else◌, Option, None, Some, Result, Ok, Err, is_ok}
+use Rattle.std.proofs.Common.{refl, ap}
 use Rattle.std.specs.Option.{option_map}
-use Rattle.file_model.specs.FilePaths.{key_parts}
 use Rattle.file_model.specs.Joins.{RowPlace}
 use Rattle.file_model.specs.Paths.{PathEntry}
 use Rattle.file_model.specs.Positions.{NumberBound, Position, Before, Reading}
@@ -10,6 +9,8 @@ use Rattle.dds_logical.specs.declared.join_views.JoinView.{JoinView}
 use Rattle.dds_logical.specs.declared.views.LogicalSpec.TheVariants.{Simple, Multi, Join}
 use Rattle.logical_model.specs.Bases.{Bases, FileSpec, PhysicalFile, LogicalFile}
 use Rattle.logical_model.specs.Readings.{join_in, has_numbers}
+use Rattle.dds_logical.specs.declared.views.LogicalSpec.{LogicalSpec}
+use Rattle.file_catalogue.specs.Bodies.{logical_in}
 use Rattle.library_model.specs.declared.requests.Limit.TheVariants as limits
 use Rattle.library_model.specs.declared.replies.Reply.{Reply}
 use Rattle.library_model.specs.declared.replies.Reply.TheVariants.{WrongOpen}
@@ -17,7 +18,7 @@ use Rattle.open_position.specs.OpenStand.{HasNoKey}
 use Rattle.library_steps.specs.State.{Memory, FileState, OpenState}
 use Rattle.library_steps.specs.Refusals.{◌>>=◌, OpenedFile}
 use Rattle.library_steps.specs.Records.{is_file_path, is_keyed, reading_of, number_asked}
-use Rattle.library_steps.specs.Reads.{entry_found, at_format, bound_asked, find_by, find_in}
+use Rattle.library_steps.specs.Reads.{entry_found, bound_asked, find_by, find_in}
 use Rattle.library_parts.specs.Indexed.{IsReadSo, IsUnjoined}
 use Rattle.library_parts.specs.Reads.{formats_read}
 use Rattle.library_parts.proofs.PlaceLemmas.{by-arrival}
@@ -29,6 +30,34 @@ join_in-unjoined (PhysicalFile spec) unjoined = refl
 join_in-unjoined (LogicalFile (Simple view)) unjoined = refl
 join_in-unjoined (LogicalFile (Multi views)) unjoined = refl
 join_in-unjoined (LogicalFile (Join view)) unjoined = absurd unjoined
+
+-- a join or none
+pub join_in-none : (spec : FileSpec) → join_in spec ≡ None → IsUnjoined spec
+join_in-none (PhysicalFile spec) none = tt
+join_in-none (LogicalFile (Simple view)) none = tt
+join_in-none (LogicalFile (Multi views)) none = tt
+join_in-none (LogicalFile (Join view)) none = absurd cc
+
+pub join_in-some : (spec : FileSpec) (view : JoinView) → join_in spec ≡ Some view → spec ≡ LogicalFile (Join view)
+join_in-some (PhysicalFile spec) view some = absurd cc
+join_in-some (LogicalFile (Simple other)) view some = absurd cc
+join_in-some (LogicalFile (Multi views)) view some = absurd cc
+join_in-some (LogicalFile (Join other)) view some = let same : other ≡ view = cc in ap (λ (v : JoinView). LogicalFile (Join v)) same
+
+-- a join is told of what a logical file is
+pub join_in-logical : (spec : FileSpec) (its : LogicalSpec) → logical_in spec ≡ Some its → join_in spec ≡ join_in (LogicalFile its)
+join_in-logical (PhysicalFile spec) its is = absurd cc
+join_in-logical (LogicalFile other) its is = let same : other ≡ its = cc in ap (λ (l : LogicalSpec). join_in (LogicalFile l)) same
+
+pub join_in-physical : (spec : FileSpec) → logical_in spec ≡ None → join_in spec ≡ None
+join_in-physical (PhysicalFile spec) none = refl
+join_in-physical (LogicalFile other) none = absurd cc
+
+pub numbered-none : (spec : FileSpec) → has_numbers spec ≡ true → join_in spec ≡ None
+numbered-none (PhysicalFile spec) numbered = refl
+numbered-none (LogicalFile (Simple view)) numbered = refl
+numbered-none (LogicalFile (Multi views)) numbered = absurd cc
+numbered-none (LogicalFile (Join view)) numbered = absurd cc
 
 -- ---- a file and its open
 

@@ -1,5 +1,5 @@
 //! The requests that set positions and read records: SETLL, SETGT, READ, READP, READE, READPE and CHAIN, through opens of
-//! physical files and of logical files over one, by their keys and in arrival order. Begin with `reads.rt`.
+//! physical files and of logical ones, joins among them, by their keys and in arrival order. Begin with `reads.rt`.
 #![tactic(auto)]
 
 mod asked;

@@ -7,7 +7,7 @@ ghost use Rattle.record_reads.specs.Plans.{used_of, holder_through, record_throu
 use crate::asked::AskedBy;
 use job_table::OpenAt;
 use library_model::replies::RecordRead;
-use library_parts::Contents;
+use library_parts::{Contents, RowFound};
 use lock_table::{Call, Holder, Level, RecordId};
 
 /// What an effect needs of the open through which it is done.
@@ -40,6 +40,14 @@ impl UsedOpen {
     }
 }
 
+/// What a read found: a record of a format, and of a join the row of its primary's record.
+#[derive(Drop)]
+pub(crate) struct FoundAt {
+    pub format: u16,
+    pub rrn: u32,
+    pub row: Option<RowFound>,
+}
+
 /// A record that is to be read.
 #[derive(Drop)]
 pub(crate) struct PlannedRead {
@@ -49,11 +57,12 @@ pub(crate) struct PlannedRead {
     pub shown: RecordRead,
 }
 
-/// The same, and by what it is found.
+/// The same, by what it is found, and of a join its row.
 #[derive(Drop)]
 pub(crate) struct FoundRead {
     pub by: AskedBy,
     pub read: PlannedRead,
+    pub row: Option<RowFound>,
 }
 
 /// What an effect needs of an open of the job.

@@ -1,5 +1,5 @@
 //! What a record shows through a format of a file.
-ghost use Rattle.std.specs.Prelude.{◌≡◌, ◌<◌, true, is_some, length, None, Some, IfOk, slice_get};
+ghost use Rattle.std.specs.Prelude.{◌≡◌, ◌<◌, true, is_some, length, None, Some, IfOk, slice_get, option_copied};
 ghost use Rattle.key_order.specs.KeyFields.{AreBytes};
 ghost use Rattle.member_slots.specs.Members.{NumberedMembers, member_of};
 ghost use Rattle.record_fmt.specs.Layout.{record_length};
@@ -10,37 +10,93 @@ ghost use Rattle.logical_model.specs.Bases.{Bases, LogicalFile};
 ghost use Rattle.logical_model.specs.Formats.{shown_by, shown_in, shown_through, values_shown};
 ghost use Rattle.view_records.specs.Through.{IsFormatOf, IsReadThrough};
 ghost use Rattle.file_catalogue.specs.Bodies.{spec_in};
-ghost use Rattle.library_steps.specs.State.{memory_of};
-ghost use Rattle.library_steps.specs.Reads.{read_as};
+ghost use Rattle.library_steps.specs.State.{OpenState, memory_of};
+ghost use Rattle.library_steps.specs.Reads.{Found, read_as};
 ghost use Rattle.library_steps.specs.Records.{live_record};
-ghost use Rattle.library_parts.specs.Finds.{ReadsMember};
-ghost use Rattle.library_parts.specs.Indexed.{IsUnjoined, IsViewBeside};
-ghost use Rattle.record_reads.specs.Plans.{record_shown};
+ghost use Rattle.record_reads.specs.Plans.{CanShow, IsOfRow, record_shown};
 ghost use Rattle.record_reads.specs.Shown.{ShowsImage, shown_as_held};
+ghost use Rattle.logical_model.specs.Readings.{join_in};
 
+use crate::plans::FoundAt;
+use dds_logical::join_views::JoinView;
 use dds_logical::{LogicalSpec, View};
 use field_values::fields::ImageFault;
 use file_catalogue::{Described, File, FileBody};
 use job_table::OpenAt;
 use library_model::replies::RecordRead;
 use library_model::value_lists::Values;
-use library_parts::Contents;
+use library_parts::{Contents, RowFound};
 use record_fmt::formats::Format;
 use std::alloc::{AllocError, Global};
 use view_records::shown::values_shown;
 
+/// What a file shows of what was found, through the format at which the open is.
+pub(crate) fn shown_found(
+    contents: &Contents,
+    file: &File,
+    opened: &OpenAt<'_>,
+    found: &FoundAt,
+) -> Result<RecordRead, AllocError>
+    requires shows { found.now.row ≡ None → CanShow contents.now.state file.now opened.now.state found.now.rrn }
+    requires found { (it : Found) × IsOfRow (memory_of contents.now.state) file.now.spec found.now.row it }
+    ensures { (it : Found) → IsOfRow (memory_of contents.now.state) file.now.spec found.now.row it
+        → IfOk result (λ shown. shown ≡ record_shown (memory_of contents.now.state) file.now opened.now.state found.now.rrn it.row) }
+{
+    match &found.row {
+        Some(row) => row_shown(contents, file, row, found.rrn),
+        None => record_shown(contents, file, opened, found.rrn),
+    }
+}
+
+/// What a join shows of a row.
+fn row_shown(
+    contents: &Contents,
+    file: &File,
+    row: &RowFound,
+    rrn: u32,
+) -> Result<RecordRead, AllocError>
+    requires { (it : Found) × IsOfRow (memory_of contents.now.state) file.now.spec (Some row.now) it }
+    ensures { (it : Found) (opened : OpenState) → IsOfRow (memory_of contents.now.state) file.now.spec (Some row.now) it
+        → IfOk result (λ shown. shown ≡ record_shown (memory_of contents.now.state) file.now opened rrn it.row) }
+{
+    let view = joined(file).unwrap();
+    let values = contents.row_values(view, row)?;
+    Ok(RecordRead {
+        format: view.format.name,
+        rrn,
+        values: Values::from_vec(values),
+    })
+}
+
+/// The join that a file is.
+pub(crate) fn joined(file: &File) -> Option<&JoinView>
+    ensures { option_copied result ≡ join_in file.now.spec }
+{
+    match file.logical() {
+        Some(spec) => joined_in(spec),
+        None => None,
+    }
+}
+
+/// The join that a logical file is.
+fn joined_in(spec: &LogicalSpec) -> Option<&JoinView>
+    ensures { option_copied result ≡ join_in (LogicalFile spec.now) }
+{
+    match spec {
+        LogicalSpec::Join(view) => Some(view),
+        LogicalSpec::Simple(_) | LogicalSpec::Multi(_) => None,
+    }
+}
+
 /// The record of that number of the open's member, through the format at which the open is.
-pub(crate) fn record_shown(
+fn record_shown(
     contents: &Contents,
     file: &File,
     opened: &OpenAt<'_>,
     rrn: u32,
 ) -> Result<RecordRead, AllocError>
-    requires member { ReadsMember contents.now.state file.now opened.now.state }
-    requires unjoined { IsUnjoined file.now.spec }
-    requires view { IsViewBeside contents.now.state.files file.now.spec }
-    requires live { is_some (live_record opened.now.state.member rrn (memory_of contents.now.state)) ≡ true }
-    ensures { IfOk result (λ shown. shown ≡ record_shown (memory_of contents.now.state) file.now opened.now.state rrn) }
+    requires { CanShow contents.now.state file.now opened.now.state rrn }
+    ensures { IfOk result (λ shown. shown ≡ record_shown (memory_of contents.now.state) file.now opened.now.state rrn None) }
 {
     // What the parts of a library need of each other holds.
     let _jobs = contents.jobs_begun();

@@ -25,7 +25,6 @@ use Rattle.member_slots.specs.Members.{NumberedMembers, item_at, member_of, put_
 use Rattle.library_model.specs.Named.{Named, named}
 use Rattle.library_parts.specs.Filled.{library_with}
 use Rattle.library_parts.specs.Files.{IsNewFile, IsNewView}
-use Rattle.library_parts.specs.Indexed.{IsUnjoined}
 use Rattle.library_steps.specs.LogicalFiles.{bases_of}
 use Rattle.library_steps.specs.Uses.{changer_of_any}
 use Rattle.library_steps.specs.CreateLogicalFile.{NewLogical, logical_by, logical_described, with_logical}
@@ -331,11 +330,10 @@ is-new s passed ready name number new file absent is_passed few is_ready made =
 
 pub is-new-view : (s ready : State) (name : List ℕ) (plan : NewLogical) (spec : LogicalSpec) → spec ≡ plan.spec → ready ≡ s → named name s.files ≡ None
     → logical_described (memory_of s) plan.source ≡ Ok plan.spec
-    → IsUnjoined (LogicalFile spec) → changer_of_any (base_members (bases_of (memory_of s)) spec) (memory_of s) ≡ None → IsNewView ready name plan
-is-new-view s ready name plan spec its is_ready absent gives unjoined unchanged =
+    → changer_of_any (base_members (bases_of (memory_of s)) spec) (memory_of s) ≡ None → IsNewView ready name plan
+is-new-view s ready name plan spec its is_ready absent gives unchanged =
     subst (λ (t : State). IsNewView t name plan) (sym is_ready) (record {
       absent = absent;
       described = gives;
-      unjoined = subst (λ (l : LogicalSpec). IsUnjoined (LogicalFile l)) its unjoined;
       unchanged = subst (λ (l : LogicalSpec). changer_of_any (base_members (bases_of (memory_of s)) l) (memory_of s) ≡ None) its unchanged;
     })

@@ -3,7 +3,7 @@ ghost use Rattle.std.specs.Prelude.{◌≡◌, ◌≤◌, ◌&&◌, None, Some, 
 ghost use Rattle.std.specs.Str.{bytes_eq};
 ghost use Rattle.std.specs.Option.{is_some};
 ghost use Rattle.entry_codec.specs.declared.kinds.FileKind.TheVariants.{Logical, Physical};
-ghost use Rattle.logical_model.specs.Bases.{LogicalFile, base_members};
+ghost use Rattle.logical_model.specs.Bases.{base_members};
 ghost use Rattle.library_model.specs.Named.{named};
 ghost use Rattle.library_model.specs.declared.limits.TheConstants.{LAST_MEMBER};
 ghost use Rattle.library_steps.specs.CreateLogicalFile.{logical_described};
@@ -12,7 +12,6 @@ ghost use Rattle.library_steps.specs.LogicalFiles.{bases_of};
 ghost use Rattle.library_steps.specs.State.{file_named, memory_of, physical_among};
 ghost use Rattle.library_steps.specs.Uses.{changer_of_any};
 ghost use Rattle.library_parts.specs.Files.{IsNewMember};
-ghost use Rattle.library_parts.specs.Indexed.{IsUnjoined};
 ghost use Rattle.replay_members.specs.Bodies.{held};
 ghost use Rattle.restarted_library.specs.Steps.{AddsFile, AddsMember, AddsOwner, IsFileOf, IsViewOf};
 
@@ -212,30 +211,16 @@ fn add_described(contents: &mut Contents, name: Name, view: DescribedView) -> Re
     Ok(())
 }
 
-/// The name is new, the file is no join, and no open commit cycle has changed a record under it.
+/// The name is new, and no open commit cycle has changed a record under it.
 fn may_stand(contents: &Contents, name: &Name, view: &LogicalSpec) -> Result<(), AllocError>
     ensures absent { OnOk result (named name.now contents.now.state.files ≡ None) }
-    ensures unjoined { OnOk result (IsUnjoined (LogicalFile view.now)) }
     ensures unchanged { OnOk result (changer_of_any (base_members (bases_of (memory_of contents.now.state)) view.now) (memory_of contents.now.state) ≡ None) }
 {
     if has_file(contents, name) {
-        return Err(AllocError);
-    }
-    if !is_unjoined(view) {
         return Err(AllocError);
     }
     if let Some(_) = contents.changer_under(view) {
         return Err(AllocError);
     }
     Ok(())
-}
-
-fn is_unjoined(view: &LogicalSpec) -> bool
-    ensures { result ≡ true → IsUnjoined (LogicalFile view.now) }
-{
-    match view {
-        LogicalSpec::Simple(_) => true,
-        LogicalSpec::Multi(_) => true,
-        LogicalSpec::Join(_) => false,
-    }
 }

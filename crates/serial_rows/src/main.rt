@@ -1,8 +1,10 @@
-//! Runs of several jobs by a schedule: whose call comes when (`turns.rt`), what jobs answer each other (`replies.rt`), what they are answered by keys (`keys.rt`), and the examples of logical files (`views.rt`, `formats.rt`).
+//! Runs of several jobs by a schedule: whose call comes when (`turns.rt`), what jobs answer each other (`replies.rt`), what they are answered by keys (`keys.rt`), and the examples of logical files (`views.rt`, `formats.rt`, `joins.rt`).
 #![tactic(auto)]
 
 #[cfg(test)]
 mod formats;
+#[cfg(test)]
+mod joins;
 #[cfg(test)]
 mod keys;
 #[cfg(test)]

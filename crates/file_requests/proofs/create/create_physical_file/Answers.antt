@@ -7,7 +7,7 @@ use Rattle.library_steps.specs.State.{FileState, memory_of}
 use Rattle.library_steps.specs.Change.{does, journaled}
 use Rattle.library_steps.specs.CreatePhysicalFile.{create_change, with_file}
 use Rattle.library_steps.specs.Drafts.{author_of, member_draft}
-use Rattle.draft_list.proofs.DepositLemmas.{Answers-left}
+use Rattle.library_parts.proofs.DepositLemmas.{Answers-left}
 use Rattle.file_requests.proofs.PhysicalLemmas.{is-new-file}
 use Rattle.file_requests.proofs.create.create_physical_file.Goals as goal
 

@@ -6,7 +6,7 @@ use Rattle.library_steps.specs.State.{memory_of}
 use Rattle.library_steps.specs.Change.{does}
 use Rattle.library_steps.specs.DeleteFile.{delete_change, deleted}
 use Rattle.library_steps.specs.Drafts.{Author, author_of, library_draft}
-use Rattle.draft_list.proofs.DepositLemmas.{Answers-left}
+use Rattle.library_parts.proofs.DepositLemmas.{Answers-left}
 use Rattle.file_requests.proofs.DeleteLemmas.{unused-kept}
 use Rattle.file_requests.proofs.delete.delete_file.Goals as goal
 
@@ -14,6 +14,9 @@ pub apply_delete-requires-clause-unused : goal.apply_delete-requires-clause-unus
 apply_delete-requires-clause-unused c =
     let file = c.in_ok-_file.ensures in
     unused-kept c.args.contents.now.state c.with_room.new.contents.state c.args.args.now.file c.in_ok-_file._file.now c.with_room.ensures.state file.there file.unused
+
+pub apply_delete-requires-clause-paths : goal.apply_delete-requires-clause-paths
+apply_delete-requires-clause-paths c = rw c.as_slice.ensures.value c.in_ok-paths.ensures
 
 pub returns : goal.returns
 returns c =

@@ -9,7 +9,7 @@ use Rattle.library_steps.specs.Change.{does, journaled}
 use Rattle.library_steps.specs.Journaling.{no_longer_journaled, end_change}
 use Rattle.library_steps.specs.Drafts.{Author, author_of, member_draft}
 use Rattle.file_requests.specs.Records.{journaling_ended}
-use Rattle.draft_list.proofs.DepositLemmas.{Answers-left}
+use Rattle.library_parts.proofs.DepositLemmas.{Answers-left}
 use Rattle.file_requests.proofs.journaling.end_journaling.Goals as goal
 
 pub returns : goal.returns

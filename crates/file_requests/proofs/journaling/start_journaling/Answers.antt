@@ -6,7 +6,7 @@ use Rattle.library_steps.specs.Change.{does}
 use Rattle.library_steps.specs.Journaling.{start_change}
 use Rattle.library_steps.specs.Drafts.{Author, author_of}
 use Rattle.file_requests.specs.Records.{journaling_started, start_drafts}
-use Rattle.draft_list.proofs.DepositLemmas.{Answers-left}
+use Rattle.library_parts.proofs.DepositLemmas.{Answers-left}
 use Rattle.file_requests.proofs.journaling.start_journaling.Goals as goal
 
 pub returns : goal.returns

@@ -6,7 +6,7 @@ use Rattle.library_steps.specs.State.{State, FileState, memory_of}
 use Rattle.library_steps.specs.Change.{does, journaled}
 use Rattle.library_steps.specs.MemberCommands.{member_added}
 use Rattle.library_steps.specs.Drafts.{Author, author_of, member_draft}
-use Rattle.draft_list.proofs.DepositLemmas.{Answers-left}
+use Rattle.library_parts.proofs.DepositLemmas.{Answers-left}
 use Rattle.library_parts.specs.Files.{IsNewMember}
 use Rattle.file_requests.proofs.member_commands.add_member.Goals as goal
 

@@ -5,7 +5,7 @@ use Rattle.library_steps.specs.State.{memory_of}
 use Rattle.library_steps.specs.Change.{does}
 use Rattle.library_steps.specs.MemberCommands.{if_journaled, renumbering}
 use Rattle.library_steps.specs.Drafts.{Author, author_of, member_draft}
-use Rattle.draft_list.proofs.DepositLemmas.{Answers-left}
+use Rattle.library_parts.proofs.DepositLemmas.{Answers-left}
 use Rattle.file_requests.specs.Members.{kind_of, renumbering_of, slots_after}
 use Rattle.file_requests.proofs.member_commands.renumber_member.Goals as goal
 

@@ -3,15 +3,9 @@ use Rattle.std.specs.Option.{option_copied}
 use Rattle.library_model.specs.declared.replies.Reply.{Reply}
 use Rattle.library_steps.specs.Records.{is_file_path}
 use Rattle.library_steps.specs.State.{memory_of}
-use Rattle.library_parts.proofs.UserKinds.{view-unjoined}
 use Rattle.file_requests.specs.Opens.{GivesMembers}
 use Rattle.file_requests.proofs.OpenLemmas.{members-logical, members-physical, opens-logical, opens-physical, so-logical, so-physical}
 use Rattle.file_requests.proofs.opens.members_to_open.Goals as goal
-
-pub view_members-requires-clause-unjoined : goal.view_members-requires-clause-unjoined
-view_members-requires-clause-unjoined c =
-    let is = sym (ap option_copied c.in-Some.is) ∙ c.logical.ensures in
-    view-unjoined c.args.file.now.spec c.in-Some.view.now is c.requires.unjoined
 
 pub returns-in-Some-clause-plan : goal.returns-in-Some-clause-plan
 returns-in-Some-clause-plan c =

@@ -2,7 +2,7 @@ use Rattle.std.proofs.Common.{[], ◌∷◌, true, refl}
 use Rattle.library_model.specs.declared.replies.Reply.TheVariants.{Done}
 use Rattle.library_steps.specs.CreateLogicalFile.{with_logical}
 use Rattle.library_steps.specs.State.{memory_of}
-use Rattle.draft_list.proofs.DepositLemmas.{Leaves-drafts}
+use Rattle.library_parts.proofs.DepositLemmas.{Leaves-drafts}
 use Rattle.file_requests.proofs.views.apply_view.Goals as goal
 
 pub returns-clause-added : goal.returns-clause-added

@@ -1,8 +1,5 @@
 use Rattle.file_requests.proofs.views.described_may_stand.Goals as goal
 
-pub may_stand-requires : goal.may_stand-requires
-may_stand-requires c = rw c.spec.ensures c.requires
-
 pub returns-clause-allowed : goal.returns-clause-allowed
 returns-clause-allowed c = rw c.spec.ensures at c.may_stand.ensures.allowed
 

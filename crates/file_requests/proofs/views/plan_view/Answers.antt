@@ -8,4 +8,4 @@ returns-clause-plan c = plans-view c.args.sources.now (memory_of c.args.contents
 pub returns-clause-new : goal.returns-clause-new
 returns-clause-new c =
     let plan = c.plan_but_keys.ensures in
-    is-new c.args.contents.now.state c.args.args.now.file c.plan_but_keys.result plan.absent plan.described plan.unjoined plan.unchanged
+    is-new c.args.contents.now.state c.args.args.now.file c.plan_but_keys.result plan.absent plan.described plan.unchanged

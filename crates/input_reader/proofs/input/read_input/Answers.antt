@@ -6,29 +6,27 @@ use Rattle.input_scripts.specs.Schedules.{NamesJobs}
 use Rattle.input_cards.specs.SectionTexts.{parts_in}
 use Rattle.input_cards.specs.CardFaults.{job_name, names_of}
 use Rattle.input_reader.specs.Input.{faults_of, schedule_by, turns_among}
-use Rattle.input_reader.specs.Unanswered.{unanswered_sources}
 use Rattle.input_reader.specs.Ready.{AreReady}
 use Rattle.input_reader.proofs.InputLemmas.{least-of_all, few-jobs}
 use Rattle.input_reader.proofs.JobLemmas.{as_many}
 use Rattle.input_reader.proofs.LeastLemmas.{least-none, lesser-none}
 use Rattle.input_reader.proofs.ScheduleLemmas.{schedule-known}
-use Rattle.input_reader.proofs.AnsweredLemmas.{sources-answered}
 use Rattle.input_reader.proofs.input.read_input.Goals as goal
 
 pub returns-in-Some-clause-fault : goal.returns-in-Some-clause-fault
 returns-in-Some-clause-fault c = λ line e.
     let lines = lines_of c.args.bytes.now in
     let same = ap (parts_in c.args.bytes.now) c.as_slice-sections.ensures ∙ c.in_ok-sections.ensures in
-    let found = least-of_all lines (parts_in c.args.bytes.now c.as_slice-sections.result.now) c.in_ok-cards.cards c.in_ok-jobs.jobs.fault c.lesser.result c.in_ok-unanswered.unanswered
-    (Some c.in-Some.line) same c.in_ok-cards.ensures c.in_ok-jobs.ensures.fault c.in_ok-unanswered.ensures c.lesser.ensures c.in-Some.ensures in
+    let found = least-of_all lines (parts_in c.args.bytes.now c.as_slice-sections.result.now) c.in_ok-cards.cards c.in_ok-jobs.jobs.fault (Some c.in-Some.line)
+    same c.in_ok-cards.ensures c.in_ok-jobs.ensures.fault c.in-Some.ensures in
     cc
 
 pub returns-in-Some-clause-accepted : goal.returns-in-Some-clause-accepted
 returns-in-Some-clause-accepted c = λ none.
     let lines = lines_of c.args.bytes.now in
     let same = ap (parts_in c.args.bytes.now) c.as_slice-sections.ensures ∙ c.in_ok-sections.ensures in
-    let found = least-of_all lines (parts_in c.args.bytes.now c.as_slice-sections.result.now) c.in_ok-cards.cards c.in_ok-jobs.jobs.fault c.lesser.result c.in_ok-unanswered.unanswered
-    (Some c.in-Some.line) same c.in_ok-cards.ensures c.in_ok-jobs.ensures.fault c.in_ok-unanswered.ensures c.lesser.ensures c.in-Some.ensures in
+    let found = least-of_all lines (parts_in c.args.bytes.now c.as_slice-sections.result.now) c.in_ok-cards.cards c.in_ok-jobs.jobs.fault (Some c.in-Some.line)
+    same c.in_ok-cards.ensures c.in_ok-jobs.ensures.fault c.in-Some.ensures in
     absurd (let both : Some c.in-Some.line ≡ None = found ∙ ap least none in cc)
 
 pub scripts_by-requires : goal.scripts_by-requires
@@ -36,8 +34,8 @@ scripts_by-requires c =
     let lines = lines_of c.args.bytes.now in
     let parts = parts_in c.args.bytes.now c.as_slice-sections.result.now in
     let same = ap (parts_in c.args.bytes.now) c.as_slice-sections.ensures ∙ c.in_ok-sections.ensures in
-    let found = least-of_all lines parts c.in_ok-cards.cards c.in_ok-jobs.jobs.fault c.lesser.result c.in_ok-unanswered.unanswered None same
-    c.in_ok-cards.ensures c.in_ok-jobs.ensures.fault c.in_ok-unanswered.ensures c.lesser.ensures c.in-None.ensures in
+    let found = least-of_all lines parts c.in_ok-cards.cards c.in_ok-jobs.jobs.fault None same
+    c.in_ok-cards.ensures c.in_ok-jobs.ensures.fault c.in-None.ensures in
     few-jobs lines parts same (least-none (faults_of lines) (sym found))
 
 pub returns-clause-sound : goal.returns-clause-sound
@@ -45,8 +43,8 @@ returns-clause-sound c =
     let lines = lines_of c.args.bytes.now in
     let parts = parts_in c.args.bytes.now c.as_slice-sections.result.now in
     let same = ap (parts_in c.args.bytes.now) c.as_slice-sections.ensures ∙ c.in_ok-sections.ensures in
-    let found = least-of_all lines parts c.in_ok-cards.cards c.in_ok-jobs.jobs.fault c.lesser.result c.in_ok-unanswered.unanswered None same
-    c.in_ok-cards.ensures c.in_ok-jobs.ensures.fault c.in_ok-unanswered.ensures c.lesser.ensures c.in-None.ensures in
+    let found = least-of_all lines parts c.in_ok-cards.cards c.in_ok-jobs.jobs.fault None same
+    c.in_ok-cards.ensures c.in_ok-jobs.ensures.fault c.in-None.ensures in
     least-none (faults_of lines) (sym found)
 
 pub returns-clause-ready : goal.returns-clause-ready
@@ -54,17 +52,15 @@ returns-clause-ready c =
     let lines = lines_of c.args.bytes.now in
     let parts = parts_in c.args.bytes.now c.as_slice-sections.result.now in
     let same = ap (parts_in c.args.bytes.now) c.as_slice-sections.ensures ∙ c.in_ok-sections.ensures in
-    let found = least-of_all lines parts c.in_ok-cards.cards c.in_ok-jobs.jobs.fault c.lesser.result c.in_ok-unanswered.unanswered None same
-    c.in_ok-cards.ensures c.in_ok-jobs.ensures.fault c.in_ok-unanswered.ensures c.lesser.ensures c.in-None.ensures in
-    let plain = lesser-none c.lesser.result c.in_ok-unanswered.unanswered (sym c.in-None.ensures) in
-    let none = lesser-none c.in_ok-cards.cards c.in_ok-jobs.jobs.fault (sym c.lesser.ensures ∙ plain.0) in
+    let found = least-of_all lines parts c.in_ok-cards.cards c.in_ok-jobs.jobs.fault None same
+    c.in_ok-cards.ensures c.in_ok-jobs.ensures.fault c.in-None.ensures in
+    let none = lesser-none c.in_ok-cards.cards c.in_ok-jobs.jobs.fault (sym c.in-None.ensures) in
     let P : Scripts → Type 0 = λ scripts. AreReady scripts in
     subst P (sym c.in_ok-scripts_by-in-None.ensures)
     record {
       askable = c.in_ok-jobs.ensures.askable;
       as_many = as_many parts ∙ ap length (sym (c.in_ok-jobs.ensures.scripts none.1));
       few = few-jobs lines parts same (least-none (faults_of lines) (sym found));
-      answered = sources-answered parts (least-none (unanswered_sources parts) (sym c.in_ok-unanswered.ensures ∙ plain.1));
     }
 
 pub returns-clause-scheduled : goal.returns-clause-scheduled
@@ -72,10 +68,9 @@ returns-clause-scheduled c =
     let lines = lines_of c.args.bytes.now in
     let parts = parts_in c.args.bytes.now c.as_slice-sections.result.now in
     let same = ap (parts_in c.args.bytes.now) c.as_slice-sections.ensures ∙ c.in_ok-sections.ensures in
-    let found = least-of_all lines parts c.in_ok-cards.cards c.in_ok-jobs.jobs.fault c.lesser.result c.in_ok-unanswered.unanswered None same c.in_ok-cards.ensures
-    c.in_ok-jobs.ensures.fault c.in_ok-unanswered.ensures c.lesser.ensures c.in-None.ensures in
-    let plain = lesser-none c.lesser.result c.in_ok-unanswered.unanswered (sym c.in-None.ensures) in
-    let none = lesser-none c.in_ok-cards.cards c.in_ok-jobs.jobs.fault (sym c.lesser.ensures ∙ plain.0) in
+    let found = least-of_all lines parts c.in_ok-cards.cards c.in_ok-jobs.jobs.fault None same c.in_ok-cards.ensures
+    c.in_ok-jobs.ensures.fault c.in-None.ensures in
+    let none = lesser-none c.in_ok-cards.cards c.in_ok-jobs.jobs.fault (sym c.in-None.ensures) in
     let many = as_many parts ∙ ap length (sym (c.in_ok-jobs.ensures.scripts none.1)) in
     let P : Scripts → Type 0 = λ scripts. NamesJobs (length scripts.scripts) scripts.schedule in
     let known = schedule-known lines parts same (least-none (faults_of lines) (sym found)) in

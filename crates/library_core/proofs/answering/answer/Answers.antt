@@ -1,7 +1,7 @@
 use Rattle.std.proofs.Common.{◌≡◌, true, sym, ◌∙◌, subst}
 use Rattle.library_model.specs.declared.requests.Request.{Request}
 use Rattle.deposited_entries.specs.Deposits.{switches}
-use Rattle.library_core.specs.Fronts.{entries_behind}
+use Rattle.journal_fronts.specs.Fronts.{entries_behind}
 use Rattle.library_core.specs.Puts.{HasAnswered, HasPut}
 use Rattle.library_core.proofs.RequestLemmas.{is-switch}
 use Rattle.library_core.proofs.answering.answer.Goals as goal

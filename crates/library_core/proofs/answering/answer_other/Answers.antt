@@ -2,7 +2,7 @@ use Rattle.std.proofs.Common.{◌≡◌, ◌≤◌, ◌+◌, ◌*◌, Bool, true
 use Rattle.store_model.specs.Disk.{Disk}
 use Rattle.library_model.specs.NeedsMemory.{needs_memory}
 use Rattle.library_model.specs.declared.replies.Reply.{Reply}
-use Rattle.library_core.specs.Fronts.{entries_behind}
+use Rattle.journal_fronts.specs.Fronts.{entries_behind}
 use Rattle.library_core.specs.Puts.{HasAnswered, HasPut}
 use Rattle.library_core.proofs.AnswerLemmas.{asked-count, asked-place, asked-wait, ended-answered, ended-put, plain, roomy-held, roomy-little}
 use Rattle.library_core.proofs.OutcomeLemmas.{no_memory-answered, stopped-put}

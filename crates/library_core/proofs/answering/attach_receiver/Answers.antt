@@ -7,8 +7,8 @@ use Rattle.library_steps.specs.State.{State, job_at, memory_of}
 use Rattle.library_parts.specs.Answers.{Gives}
 use Rattle.library_parts.specs.declared.stop.Stop.{Stop}
 use Rattle.joint_state.specs.Sound.{IsSound}
-use Rattle.library_core.specs.Fronts.{entries_behind}
-use Rattle.library_core.specs.Journaled.{IsJournaled}
+use Rattle.journal_fronts.specs.Fronts.{entries_behind}
+use Rattle.kept_library.specs.Journaled.{IsJournaled}
 use Rattle.library_core.specs.Puts.{HasAnswered, HasPut}
 use Rattle.library_core.proofs.AttachLemmas.{room-put, unready-answered, unready-put}
 use Rattle.library_core.proofs.JournalLemmas.{more-journaled}

@@ -15,7 +15,7 @@ returns-then-are_put g c =
     c.put_call.result put c.is_forced.ensures
     c.put_call.ensures.kept c.put_call.ensures.moments c.put_call.ensures.acknowledged c.put_call.ensures.whole c.put_call.ensures.little c.put_call.ensures.next c.put_call.ensures.first
     c.put_call.ensures.receiver c.put_call.ensures.number
-    c.put_call.ensures.less_places c.put_call.ensures.faults c.put_call.ensures.cause
+    c.put_call.ensures.less_places c.put_call.ensures.roots c.put_call.ensures.faults c.put_call.ensures.cause
 
 pub returns-else-are_put : goal.returns-else-are_put
 returns-else-are_put g c =

@@ -62,7 +62,7 @@ returns-in-Ok-clause-put g c = λ sources.
     c.requires.journaled (more-none c.args.journal.now)
     c.args.number c.requires.plan c.requires.next c.requires.few c.requires.left c.requires.places c.attach_drafts-ending.result.0 c.attach_drafts-ending.result.1 c.attach_drafts-ending.ensures.ending
     c.attach_drafts-ending.ensures.beginning
-    (g.S.Store.disk c.switch.new.store) c.switch.new.self c.switch.ensures.exactly c.switch.ensures.first c.switch.ensures.receiver c.switch.ensures.no_longer c.switch.ensures.faults
+    (g.S.Store.disk c.switch.new.store) c.switch.new.self c.switch.ensures.exactly c.switch.ensures.first c.switch.ensures.receiver c.switch.ensures.no_longer c.switch.ensures.faults c.switch.ensures.roots
     c.journal_lasts.ensures.places (ok-is c.switch.result fine c.switch.ensures.less_places) c.journal_lasts.ensures.stay
     (one-number c.switch.result (attached_of c.args.journal.now.chain + 1) (attached_of c.switch.new.self.chain) fine c.switch.ensures.number c.switch.ensures.attached)
     (ok-is c.switch.result fine c.switch.ensures.nothing_waits)
@@ -75,7 +75,7 @@ returns-in-Ok-clause-answered g c = λ sources.
     c.requires.sound c.requires.journaled (more-none c.args.journal.now)
     c.args.number c.requires.plan c.requires.next c.requires.few c.requires.left c.requires.places c.attach_drafts-ending.result.0 c.attach_drafts-ending.result.1 c.attach_drafts-ending.ensures.ending
     c.attach_drafts-ending.ensures.beginning
-    (g.S.Store.disk c.switch.new.store) c.switch.new.self c.switch.ensures.exactly c.switch.ensures.first c.switch.ensures.receiver c.switch.ensures.no_longer c.switch.ensures.faults
+    (g.S.Store.disk c.switch.new.store) c.switch.new.self c.switch.ensures.exactly c.switch.ensures.first c.switch.ensures.receiver c.switch.ensures.no_longer c.switch.ensures.faults c.switch.ensures.roots
     c.journal_lasts.ensures.places (ok-is c.switch.result fine c.switch.ensures.less_places) c.journal_lasts.ensures.stay
     (one-number c.switch.result (attached_of c.args.journal.now.chain + 1) (attached_of c.switch.new.self.chain) fine c.switch.ensures.number c.switch.ensures.attached)
     (ok-is c.switch.result fine c.switch.ensures.nothing_waits)
@@ -89,7 +89,7 @@ returns-in-Err-NoMemory-clause-put g c = λ sources.
     c.requires.journaled (more-none c.args.journal.now)
     c.args.number c.requires.plan c.requires.next c.requires.few c.requires.left c.requires.places c.attach_drafts-ending.result.0 c.attach_drafts-ending.result.1 c.attach_drafts-ending.ensures.ending
     c.attach_drafts-ending.ensures.beginning
-    (g.S.Store.disk c.switch.new.store) c.switch.new.self c.switch.ensures.exactly c.switch.ensures.first c.switch.ensures.receiver c.switch.ensures.no_longer c.switch.ensures.faults
+    (g.S.Store.disk c.switch.new.store) c.switch.new.self c.switch.ensures.exactly c.switch.ensures.first c.switch.ensures.receiver c.switch.ensures.no_longer c.switch.ensures.faults c.switch.ensures.roots
     c.journal_lasts.ensures.places (c.switch.ensures.same_places none) (c.switch.ensures.same_next none) (c.switch.ensures.same_forced none)
     (err-is c.switch.result NoMemory none c.switch.ensures.same_number) (c.switch.ensures.no_memory none) (c.switch.ensures.wanting none)
 
@@ -100,7 +100,7 @@ returns-in-Err-NoMemory-clause-answered g c = λ sources.
     c.requires.sound c.requires.journaled (more-none c.args.journal.now)
     c.args.number c.requires.plan c.requires.next c.requires.few c.requires.left c.requires.places c.attach_drafts-ending.result.0 c.attach_drafts-ending.result.1 c.attach_drafts-ending.ensures.ending
     c.attach_drafts-ending.ensures.beginning
-    (g.S.Store.disk c.switch.new.store) c.switch.new.self c.switch.ensures.exactly c.switch.ensures.first c.switch.ensures.receiver c.switch.ensures.no_longer c.switch.ensures.faults
+    (g.S.Store.disk c.switch.new.store) c.switch.new.self c.switch.ensures.exactly c.switch.ensures.first c.switch.ensures.receiver c.switch.ensures.no_longer c.switch.ensures.faults c.switch.ensures.roots
     c.journal_lasts.ensures.places (c.switch.ensures.same_places none) (c.switch.ensures.same_next none) (c.switch.ensures.same_forced none)
     (err-is c.switch.result NoMemory none c.switch.ensures.same_number) (c.switch.ensures.no_memory none) (c.switch.ensures.wanting none)
 
@@ -111,7 +111,7 @@ returns-in-Err-StoreFault-clause-put g c = λ sources.
     c.requires.journaled (more-none c.args.journal.now)
     c.args.number c.requires.plan c.requires.next c.requires.few c.requires.left c.requires.places c.attach_drafts-ending.result.0 c.attach_drafts-ending.result.1 c.attach_drafts-ending.ensures.ending
     c.attach_drafts-ending.ensures.beginning
-    (g.S.Store.disk c.switch.new.store) c.switch.new.self c.switch.ensures.exactly c.switch.ensures.first c.switch.ensures.receiver c.switch.ensures.no_longer c.switch.ensures.faults
+    (g.S.Store.disk c.switch.new.store) c.switch.new.self c.switch.ensures.exactly c.switch.ensures.first c.switch.ensures.receiver c.switch.ensures.no_longer c.switch.ensures.faults c.switch.ensures.roots
     (c.switch.ensures.cause bad)
 
 pub returns-in-Err-StoreFault-clause-answered : goal.returns-in-Err-StoreFault-clause-answered
@@ -120,4 +120,4 @@ returns-in-Err-StoreFault-clause-answered g c = λ sources.
     c.requires.sound c.requires.journaled (more-none c.args.journal.now)
     c.args.number c.requires.plan c.requires.next c.requires.few c.requires.left c.requires.places c.attach_drafts-ending.result.0 c.attach_drafts-ending.result.1 c.attach_drafts-ending.ensures.ending
     c.attach_drafts-ending.ensures.beginning
-    (g.S.Store.disk c.switch.new.store) c.switch.new.self c.switch.ensures.exactly c.switch.ensures.first c.switch.ensures.receiver c.switch.ensures.no_longer c.switch.ensures.faults
+    (g.S.Store.disk c.switch.new.store) c.switch.new.self c.switch.ensures.exactly c.switch.ensures.first c.switch.ensures.receiver c.switch.ensures.no_longer c.switch.ensures.faults c.switch.ensures.roots

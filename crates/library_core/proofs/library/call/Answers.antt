@@ -1,7 +1,7 @@
 use Rattle.std.proofs.Common.{◌≡◌, ◌∙◌, false, ap, sym, subst}
 use Rattle.library_model.specs.declared.calls.Call.{Call}
-use Rattle.library_core.specs.Parts.{LibraryOver}
-use Rattle.library_core.specs.Stands.{IsReady}
+use Rattle.kept_library.specs.Parts.{LibraryOver}
+use Rattle.kept_library.specs.Stands.{IsReady}
 use Rattle.library_core.proofs.LibraryLemmas.{call-alive, call-all, call-fault, call-goes, call-left, called-of}
 use Rattle.library_core.proofs.library.call.Goals as goal
 
@@ -226,3 +226,17 @@ returns-clause-receiver g c =
     let call : Call = record { job = c.args.job; timestamp = c.args.timestamp; request = c.args.request.now; reply = c.answer-reply.result.0 } in
     let called = called-of g.S.Store.tells g.S.Store.disk c.args.sources.now _ c.args.library.now new call c.library.view_is c.answer-reply.ensures.put c.answer-reply.ensures.answered in
     called.put.receiver
+
+pub returns-clause-roots : goal.returns-clause-roots
+returns-clause-roots g c =
+    let new : LibraryOver g.row.S.Denot = record {
+      store = c.answer-reply.new.store;
+      book = c.answer-reply.new.journal;
+      state = c.answer-reply.new.contents.state;
+      paths =
+          c.answer-reply.new.contents.room.paths.paths;
+      failed = c.answer-reply.result.1;
+    } in
+    let call : Call = record { job = c.args.job; timestamp = c.args.timestamp; request = c.args.request.now; reply = c.answer-reply.result.0 } in
+    let called = called-of g.S.Store.tells g.S.Store.disk c.args.sources.now _ c.args.library.now new call c.library.view_is c.answer-reply.ensures.put c.answer-reply.ensures.answered in
+    called.put.roots

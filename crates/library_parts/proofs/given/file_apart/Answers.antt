@@ -8,18 +8,17 @@ use Rattle.library_steps.specs.State.{FileState}
 use Rattle.library_steps.specs.UniqueKeys.{UniquePath, all_apart, uniques_by}
 use Rattle.library_parts.specs.Answers.{MayAllow}
 use Rattle.library_parts.specs.Given.{IsTold}
-use Rattle.library_parts.specs.Indexed.{IsUnjoined}
 use Rattle.library_parts.proofs.GivenKeys.{one-apart}
 use Rattle.library_parts.proofs.given.file_apart.Goals as goal
 
 pub returns-in-Some-2 : goal.returns-in-Some-2
-returns-in-Some-2 c = λ m later entry same also unjoined told.
+returns-in-Some-2 c = λ m later entry same also told.
     let paths = c.args.paths.now.paths in
     let own : List ℕ × FileState = (c.in-Some.name.now, c.in-Some.file.now) in
     let unique : UniquePath = record { file = c.in-Some.name.now; path = c.in-Some-2.path } in
     let at : slice_get c.args.catalogue.now.files c.args.place ≡ Some own = sym c.at.ensures ∙ ap (λ (o : Option (Bor (List ℕ) × Bor FileState)). option_map deref_pair o) c.in-Some.is in
     let is = rw c.in-Some-2.is at c.in_ok-path.ensures in
-    subst (λ (e : List ℕ × FileState). IsUnjoined e.1.spec → AllByRecursion (IsTold later.members paths) (uniques_by e.1.spec m c.args.member e)
+    subst (λ (e : List ℕ × FileState). AllByRecursion (IsTold later.members paths) (uniques_by e.1.spec m c.args.member e)
     → MayAllow c.path_apart.result (all_apart (uniques_by e.1.spec m c.args.member e) later)) (some-equal (sym at ∙ also))
-    (λ plain are. one-apart c.path_apart.result (uniques_by c.in-Some.file.now.spec m c.args.member own) unique paths later (is m c.in-Some.name.now same plain) are (c.path_apart.ensures later))
-    unjoined told
+    (λ are. one-apart c.path_apart.result (uniques_by c.in-Some.file.now.spec m c.args.member own) unique paths later (is m c.in-Some.name.now same) are (c.path_apart.ensures later))
+    told

@@ -2,8 +2,8 @@ use Rattle.std.proofs.Common.{◌≡◌, ℕ, ◌+◌, true, false, IsTrue, List
 use Rattle.library_steps.specs.State.{State, JobState, job_at, new_job, begun}
 use Rattle.library_steps.specs.History.{is_running}
 use Rattle.joint_state.specs.Sound.{IsSound}
-use Rattle.library_core.specs.Parts.{LibraryOver}
-use Rattle.library_core.specs.Stands.{IsReady}
+use Rattle.kept_library.specs.Parts.{LibraryOver}
+use Rattle.kept_library.specs.Stands.{IsReady}
 use Rattle.library_tests.proofs.calls.begin_jobs.Goals as goal
 
 -- the state once one job more has begun

@@ -1,4 +1,4 @@
-use Rattle.library_core.specs.Stands.{IsReady}
+use Rattle.kept_library.specs.Stands.{IsReady}
 use Rattle.library_tests.proofs.calls.check_rows.Given as goal
 
 abbrev pub invariant-loop-row : goal.invariant-loop-row

@@ -13,8 +13,8 @@ may_deposit-requires-clause-none g c = none-begun c.args.contents.state (attache
 pub may_deposit-requires-clause-unsaved : goal.may_deposit-requires-clause-unsaved
 may_deposit-requires-clause-unsaved g c = none-saved c.args.contents.state (attached_of c.args.journal.chain) c.requires.left
 
-pub over-library-requires : goal.over-library-requires
-over-library-requires g c =
+pub over-requires : goal.over-requires
+over-requires g c =
     is-journaled c.args.contents.state (attached_of c.args.journal.chain) c.requires.left g.S.Store.tells (g.S.Store.disk c.args.store) c.args.journal refl c.requires.held
     (c.if-not-stands_behind.ensures.first refl) (c.if-not-stands_behind.ensures.last refl ∙ c.requires.counted) (c.if-not-stands_behind.ensures.little refl) c.requires.receiver
     (c.if-not-may_deposit.ensures refl)
@@ -22,9 +22,8 @@ over-library-requires g c =
 pub returns-clause-built : goal.returns-clause-built
 returns-clause-built g c =
     let few : library_bytes c.args.contents.state.members ≤ MOST_LIBRARY_BYTES = omega (arith, c.member_bytes-bytes.ensures.value, c.member_bytes-bytes.ensures.few) in
-    let alive = c.failed-failed.ensures.failed ∙ c.over-library.ensures.stands.alive in
-    is-built g.S.Store.tells (g.S.Store.disk c.args.store) c.over-library.result c.args.journal c.args.contents.state (attached_of c.args.journal.chain) c.requires.left few
-    c.over-library.ensures.book c.requires.nothing_waits c.requires.receiver c.over-library.ensures.stands (c.failed-failed.ensures.all alive)
+    is-built g.S.Store.tells (g.S.Store.disk c.args.store) c.over.result c.args.journal c.args.contents.state (attached_of c.args.journal.chain) c.requires.left few
+    c.over.ensures.book c.requires.nothing_waits c.requires.receiver c.over.ensures.stands (c.over.ensures.all)
     (subst (λ (it : g.row.S.Denot). g.S.Store.tells → (areas : Areas) → May (g.S.Store.disk it) areas
-    → SpellEntries c.over-library.result.book.chain.first (take c.over-library.result.book.forced c.over-library.result.state.entries) areas) c.over-library.ensures.store
-    c.over-library.ensures.left)
+    → SpellEntries c.over.result.book.chain.first (take c.over.result.book.forced c.over.result.state.entries) areas) c.over.ensures.store
+    c.over.ensures.left)

@@ -1,7 +1,7 @@
 use Rattle.std.proofs.Common.{◌≡◌, List, length, ap, ◌∙◌, arith}
 use Rattle.entry_codec.specs.declared.entries.Draft.{Draft}
 use Rattle.member_slots.specs.Members.{member_at}
-use Rattle.draft_list.specs.Sizes.{draft_bytes}
+use Rattle.library_parts.specs.Sizes.{draft_bytes}
 use Rattle.range_images.specs.declared.slot_given.SlotGiven.{SlotGiven}
 use Rattle.range_images.specs.Given.{given_slots}
 use Rattle.library_parts.proofs.GivenLemmas.{grows}

@@ -1,4 +1,4 @@
-use Rattle.std.proofs.Common.{inl, inr, sym, subst, List}
+use Rattle.std.proofs.Common.{refl, sym, subst, List}
 use Rattle.std.specs.Prelude.{IfOk}
 use Rattle.std.proofs.lemmas.Option.{slice_get_within}
 use Rattle.dds_logical.specs.declared.views.LogicalSpec.TheVariants.{Multi}
@@ -43,8 +43,8 @@ image_among-requires-clause-old c = λ image is.
     (subst (λ (spec : LogicalSpec). HoldsRecord (fields_under bases (LogicalFile spec) c.args.number) image.now) c.in-Multi.is (c.requires.old image is)))
 
 -- nothing is written through a join
-pub unreachable-requires : goal.unreachable-requires
-unreachable-requires c = subst (λ (spec : LogicalSpec). IsWrittenIn c.args.contents.now.state.files (LogicalFile spec) c.args.number) c.in-Join.is c.requires.written
+pub returns-in-Join-clause-packed : goal.returns-in-Join-clause-packed
+returns-in-Join-clause-packed c = rw c.in-Join.is refl
 
 pub returns-in-Simple-clause-packed : goal.returns-in-Simple-clause-packed
 returns-in-Simple-clause-packed c =

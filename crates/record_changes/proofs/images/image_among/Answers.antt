@@ -1,10 +1,9 @@
-use Rattle.std.proofs.Common.{◌≡◌, ◌∙◌, Option, Some, List, length, refl, sym, ap, subst}
+use Rattle.std.proofs.Common.{◌∙◌, Option, length, refl, sym, subst}
 use Rattle.std.specs.Prelude.{IfOk}
 use Rattle.std.specs.Option.{option_copied}
 use Rattle.std.proofs.lemmas.Option.{slice_get_read}
-use Rattle.record_fmt.specs.declared.formats.Field.{Field}
 use Rattle.dds_logical.specs.declared.views.View.{View}
-use Rattle.logical_model.specs.Formats.{given_by, given_through}
+use Rattle.logical_model.specs.Formats.{given_by}
 use Rattle.logical_laws.specs.Found.{HoldsRecord}
 use Rattle.library_steps.specs.State.{memory_of}
 use Rattle.library_steps.specs.LogicalFiles.{bases_of}

@@ -5,7 +5,7 @@ use Rattle.record_changes.proofs.write.plan_write.Goals as goal
 
 pub format_asked-requires : goal.format_asked-requires
 format_asked-requires c =
-    first-format c.args.contents.now.state.files c.in_ok-opened.field-0.file.now.spec c.in_ok-opened.ensures.unjoined c.in_ok-opened.ensures.view
+    first-format c.args.contents.now.state.files c.in_ok-opened.field-0.file.now.spec c.in_ok-opened.ensures.view
 
 pub returns-clause-plan : goal.returns-clause-plan
 returns-clause-plan c =

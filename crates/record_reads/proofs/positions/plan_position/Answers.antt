@@ -5,7 +5,6 @@ pub returns : goal.returns
 returns c = record {
   its = opened_with c.in_ok-opened.field-0.opened.now.state c.in_ok-opened.field-0.file.now;
   opened = c.in_ok-opened.ensures.found;
-  unjoined = c.in_ok-opened.ensures.unjoined;
   place = c.in_ok-may_stand.ensures;
   same = rw c.here-here.ensures at c.used_open.ensures;
 }

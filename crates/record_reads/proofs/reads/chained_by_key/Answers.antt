@@ -5,7 +5,7 @@ use Rattle.record_reads.proofs.reads.chained_by_key.Goals as goal
 
 pub returns-in-Ok : goal.returns-in-Ok
 returns-in-Ok c =
-    key-chained (memory_of c.args.contents.now.state) 0 (opened_with c.args.opened.now.state c.args.file.now) c.args.values.now c.in-Ok.key c.requires.unjoined
+    key-chained (memory_of c.args.contents.now.state) 0 (opened_with c.args.opened.now.state c.args.file.now) c.args.values.now c.in-Ok.key
     (rw c.in-Ok.is at c.given_key.ensures)
 
 pub returns-in-Err : goal.returns-in-Err

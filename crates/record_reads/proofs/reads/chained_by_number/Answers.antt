@@ -12,7 +12,7 @@ returns-in-Ok c =
     let its = opened_with c.args.opened.now.state c.args.file.now in
     let can = rw c.in-Ok.is at c.may_stand_at.ensures in
     let takes = takes-number its c.args.rrn (can Before) in
-    number-chained m 0 its c.args.rrn c.requires.unjoined (no-key (bases_of m) its.file its.opened takes.numbered c.requires.reads.so takes.unkeyed) takes.asked
+    number-chained m 0 its c.args.rrn takes.numbered (no-key (bases_of m) its.file its.opened takes.numbered c.requires.so takes.unkeyed) takes.asked
 
 pub returns-in-Err : goal.returns-in-Err
 returns-in-Err c =

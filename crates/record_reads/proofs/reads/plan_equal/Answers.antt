@@ -17,7 +17,7 @@ returns c =
     let m = memory_of c.args.contents.now.state in
     let its = opened_with c.in_ok-opened.field-0.opened.now.state c.in_ok-opened.field-0.file.now in
     requested m c.args.job c.args.args.now.open_id its _ _ c.plan_found.result c.in_ok-opened.ensures.found
-    (equal-through m c.args.job its c.args.direction c.args.args.now c.in_ok-key.key c.in_ok-opened.ensures.found c.in_ok-opened.ensures.unjoined
+    (equal-through m c.args.job its c.args.direction c.args.args.now c.in_ok-key.key c.in_ok-opened.ensures.found
     (rw c.as_slice.ensures at c.in_ok-key.ensures)
     ∙ ap (λ (by : AskedBy). read_found m c.args.job its c.args.args.now.lock by) (sym c.equal.ensures))
     c.plan_found.ensures

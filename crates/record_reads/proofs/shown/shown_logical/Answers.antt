@@ -1,4 +1,4 @@
-use Rattle.std.proofs.Common.{inl, inr, subst, List, sym}
+use Rattle.std.proofs.Common.{subst, List, sym}
 use Rattle.std.proofs.lemmas.Option.{slice_get_within}
 use Rattle.dds_logical.specs.declared.views.LogicalSpec.{LogicalSpec}
 use Rattle.dds_logical.specs.declared.views.LogicalSpec.TheVariants.{Multi}

@@ -5,8 +5,7 @@ use Rattle.restarted_library.proofs.placing.add_described.Goals as goal
 pub add_view-requires-clause-new : goal.add_view-requires-clause-new
 add_view-requires-clause-new c =
     is-new-view c.args.contents.now.state c.reserve_file.new.self.state c.args.name c.args.view c.spec.result.now c.spec.ensures c.reserve_file.ensures.state c.in_ok-may_stand.ensures.absent
-    c.requires
-    c.in_ok-may_stand.ensures.unjoined c.in_ok-may_stand.ensures.unchanged
+    c.requires c.in_ok-may_stand.ensures.unchanged
 
 pub returns : goal.returns
 returns c = λ created catalog members entries attached built.

@@ -101,6 +101,7 @@ returns-clause-called g c = λ e.
       all = c.call-reply.ensures.all;
       receiver = c.call-reply.ensures.receiver;
       grows = entries-grow state journaled.may.unsaved c.self.invariant.sound.numbered c.self.inside.scripts.sources c.args.job c.now-timestamp.result c.in-Ok.request;
+      roots = c.call-reply.ensures.roots;
     } in
     let calls = rw c.reserve.ensures.unchanged at c.push.ensures.calls in
     let asks_it = rw c.reserve.ensures.unchanged at c.in-Ok.ensures.asked in

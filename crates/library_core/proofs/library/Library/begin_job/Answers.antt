@@ -1,5 +1,5 @@
 use Rattle.std.proofs.Common.{◌≤◌, ◌∙◌, length, ap, arith}
-use Rattle.library_core.specs.Parts.{LibraryOver}
+use Rattle.kept_library.specs.Parts.{LibraryOver}
 use Rattle.library_core.proofs.JournalLemmas.{begun-by}
 use Rattle.library_core.proofs.library.Library.begin_job.Goals as goal
 

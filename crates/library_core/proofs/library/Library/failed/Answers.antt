@@ -1,7 +1,7 @@
 use Rattle.std.proofs.Common.{◌≡◌, ◌+◌, false, length, subst}
-use Rattle.library_core.specs.Journaled.{IsJournaled}
-use Rattle.library_core.specs.Parts.{LibraryOver}
-use Rattle.library_core.proofs.JournalLemmas.{counted}
+use Rattle.kept_library.specs.Journaled.{IsJournaled}
+use Rattle.kept_library.specs.Parts.{LibraryOver}
+use Rattle.kept_library.proofs.JournaledLemmas.{counted}
 use Rattle.library_core.proofs.LibraryLemmas.{library-left}
 use Rattle.library_core.proofs.library.Library.failed.Goals as goal
 

@@ -25,6 +25,6 @@ invariant_of-self c =
       AreOne-with_open _ _ _ args c.args.members c.self.invariant.0 holds,
       HasDue-kept _ _ _ _ _ (λ job. refl) c.self.invariant.1,
       IsIndexed-with_open _ _ _ _ _ _ _ args c.args.members order
-          (reads-renumbered (bases_in inside.catalogue.files) inside.paths.paths (new_open args 0 c.args.members) (order_by 0 c.args.reads) order (named args.file inside.catalogue.files) refl refl reads.order)
+          (reads-renumbered (bases_in inside.catalogue.files) inside.paths.paths (new_open args 0 c.args.members) (order_by 0 c.args.reads) order (named args.file inside.catalogue.files) refl refl refl reads.order)
           c.self.invariant.2,
     )

@@ -11,7 +11,7 @@ returns-clause-there c =
     let opened = c.args.opened.now.state in
     let file = c.args.file.now in
     let has = rw (← c.self.view_is) at c.requires.there in
-    let many = members-many s.files file opened has.there c.requires.unjoined has.holds in
+    let many = members-many s.files file opened has.there has.holds in
     let low = c.requires.format in
     rw (← c.self.view_is, c.at.ensures.state)
-    (reads-at s file opened c.args.format c.self.invariant.0.lawful c.len-files.ensures.keyed c.requires.unjoined (some-below opened.members c.args.format (omega (arith, low, many))) has)
+    (reads-at s file opened c.args.format c.self.invariant.0.lawful c.len-files.ensures.keyed (some-below opened.members c.args.format (omega (arith, low, many))) has)

@@ -62,7 +62,7 @@ returns-in-Some-clause-live c =
     let its = some-found (merged_parts opened.order.formats) c.hit_of.result c.in-Some.hit _ c.in-Some.is found in
     rw (← c.self.view_is)
     (found-live opened.state m c.in-Some.hit _ its
-    (asked-live s.files c.args.file.now opened.state m c.args.by (merged_parts opened.order.formats) opened.state.position refl c.requires.reads.unjoined
+    (asked-live s.files c.args.file.now opened.state m c.args.by (merged_parts opened.order.formats) opened.state.position refl c.requires.unjoined
     (subst (OpensFile s.files opened.state) (rw (← c.self.view_is) at c.requires.member).there (rw (← c.self.view_is) at c.requires.member).holds)))
 
 pub returns-in-Some-clause-there : goal.returns-in-Some-clause-there
@@ -73,7 +73,7 @@ returns-in-Some-clause-there c =
     let hit = c.in-Some.hit in
     let bytes = subst (λ (o : Option Hit). IfSome o (λ h. IsEntryIn opened.order.formats (entry_of h))) c.in-Some.is c.hit_of.ensures.bytes in
     let low = bytes.format in
-    let many = c.reads_there.ensures.as_many in
+    let many = c.reads_there.ensures.few in
     rw (← c.self.view_is)
-    (reads-at s c.args.file.now opened.state hit.format c.self.invariant.0.lawful c.len-files.ensures.keyed c.requires.reads.unjoined
+    (reads-at s c.args.file.now opened.state hit.format c.self.invariant.0.lawful c.len-files.ensures.keyed
     (some-below opened.state.members hit.format (omega (arith, low, many))) (rw (← c.self.view_is) at c.requires.member))

@@ -9,16 +9,7 @@ use Rattle.library_parts.specs.Answers.{MayAllow}
 use Rattle.library_parts.specs.NewKeys.{IsKeptOver, new_in_paths, refused_by}
 use Rattle.library_parts.specs.Parts.{state_of}
 use Rattle.library_parts.proofs.FlatLemmas.{flat-at}
-use Rattle.library_parts.proofs.GivenKeys.{unjoined-at}
 use Rattle.library_parts.proofs.contents.Contents.free_at.Goals as goal
-
-pub free_of_file-requires-clause-unjoined : goal.free_of_file-requires-clause-unjoined
-free_of_file-requires-clause-unjoined c =
-    let inside = c.self.inside in
-    let files = inside.catalogue.files in
-    let entry : List ℕ × FileState = (c.in-Some.name.now, c.in-Some.file.now) in
-    let at : slice_get files c.args.place ≡ Some entry = sym c.at.ensures ∙ ap (λ (o : Option (Bor (List ℕ) × Bor FileState)). option_map deref_pair o) c.in-Some.is in
-    unjoined-at files inside.paths.paths c.args.new.member c.args.place entry c.self.invariant.2.views at
 
 pub free_of_file-requires-clause-kept : goal.free_of_file-requires-clause-kept
 free_of_file-requires-clause-kept c =

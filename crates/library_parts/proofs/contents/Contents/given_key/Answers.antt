@@ -15,8 +15,8 @@ returns c =
     let file = c.args.file.now in
     let paths = c.args.self.now.room.paths.paths in
     let bases = bases_in c.args.self.now.state.files in
-    let keyed = order-keyed bases paths file opened.state opened.order c.requires.unjoined c.requires.so c.requires.by in
+    let keyed = order-keyed bases paths file opened.state opened.order c.requires.so c.requires.by in
     let formats = formats-by paths (path_read bases file opened.state) opened.order c.requires.by in
-    gives-key bases file opened.state c.args.values.now c.key_of_values.result c.requires.unjoined c.requires.so
+    gives-key bases file opened.state c.args.values.now c.key_of_values.result c.requires.so
     (subst (λ (fs : List (List KeyPart)). HasKeyOf (is_keyed file opened.state) (merged_parts fs) c.args.values.now c.key_of_values.result) (sym formats)
     (subst (λ (b : Bool). HasKeyOf b (merged_parts opened.order.formats) c.args.values.now c.key_of_values.result) keyed c.key_of_values.ensures))

@@ -1,4 +1,5 @@
+use Rattle.std.proofs.Common.{◌∙◌}
 use Rattle.library_parts.proofs.contents.Contents.has_many_paths.Goals as goal
 
-pub have_many_with-requires-clause-own : goal.have_many_with-requires-clause-own
-have_many_with-requires-clause-own c = c.in_ok-path.ensures
+pub have_many_with-requires : goal.have_many_with-requires
+have_many_with-requires c = c.as_slice.ensures.value ∙ c.in_ok-paths.ensures

@@ -1,31 +1,29 @@
-use Rattle.std.proofs.Common.{◌≡◌, ◌∙◌, ◌+◌, ℕ, nat_lt, sym, ap}
-use Rattle.member_slots.specs.Members.{Numbered}
-use Rattle.path_set.specs.KeptPaths.{KeptPath}
+use Rattle.std.proofs.Common.{◌≡◌, ◌∙◌, ◌≤◌, ◌+◌, ℕ, suc, nat_lt, true, length, append-nil, sym, ap, arith}
+use Rattle.std.proofs.lemmas.Bool.Decides.{nat_tests}
+use Rattle.logical_model.specs.SamePaths.{count_paths}
 use Rattle.library_steps.specs.declared.limits.TheConstants.{MOST_PATHS}
+use Rattle.library_steps.specs.LogicalFiles.{paths_over}
 use Rattle.library_steps.specs.State.{memory_of}
-use Rattle.library_paths.proofs.NumberLemmas.{any-at}
-use Rattle.library_paths.proofs.OverLemmas.{over-new, over-there}
-use Rattle.library_parts.specs.Parts.{state_of}
-use Rattle.library_parts.proofs.ManyPaths.{at-least, new-apart}
+use Rattle.library_parts.proofs.ManyPaths.{count-end, count-next, many-already, path-at}
 use Rattle.library_parts.proofs.contents.Contents.has_many_with.Goals as goal
 
-pub returns-in-Some : goal.returns-in-Some
-returns-in-Some c =
-    let parts = c.self.inside in
-    let m = memory_of (state_of parts.catalogue parts.members parts.next_member parts.journal parts.locks parts.jobs) in
-    let kept = parts.paths.paths in
-    let path = c.args.path.now in
-    let found = rw c.in-Some.is at c.number_of.ensures in
-    let there = any-at (λ (q : Numbered KeptPath). q.item.spec ≡ path) _ found.0 kept found.1 found.2 in
-    let same = over-there c.args.member m kept c.kept-kept.ensures.shared c.self.invariant.2.paths path c.requires there in
-    rw (← c.self.view_is) (ap (λ (n : ℕ). nat_lt MOST_PATHS n) (c.count_over-count.ensures ∙ sym same))
+pub loop-place-init : goal.loop-place-init
+loop-place-init c = c.count_now-count.ensures ∙ sym (ap count_paths (append-nil (paths_over c.args.member (memory_of c.args.self.now.state))))
 
-pub returns-in-None : goal.returns-in-None
-returns-in-None c =
-    let parts = c.self.inside in
-    let m = memory_of (state_of parts.catalogue parts.members parts.next_member parts.journal parts.locks parts.jobs) in
-    let kept = parts.paths.paths in
-    let path = c.args.path.now in
-    let absent = new-apart path kept (rw c.in-None.is at c.number_of.ensures) in
-    let same = over-new c.args.member m kept c.kept-kept.ensures.shared c.self.invariant.2.paths path c.requires absent in
-    rw (← c.self.view_is) (at-least MOST_PATHS c.count_over-count.result ∙ ap (λ (n : ℕ). nat_lt MOST_PATHS (n + 1)) c.count_over-count.ensures ∙ ap (λ (n : ℕ). nat_lt MOST_PATHS n) (sym same))
+pub returns-then-count-gt-MOST_PATHS : goal.returns-then-count-gt-MOST_PATHS
+returns-then-count-gt-MOST_PATHS c =
+    many-already c.args.member (paths_over c.args.member (memory_of c.args.self.now.state)) c.args.paths.now c.loop-place.place c.loop-place.count c.loop-place.invariant
+    (let many = c.if-count-gt-MOST_PATHS.true in let e : nat_lt MOST_PATHS c.loop-place.count ≡ true = grind (arith, nat_tests, many) in e)
+
+pub loop-place-preserved : goal.loop-place-preserved
+loop-place-preserved c =
+    let next : c.loop-place.place + 1 ≡ suc c.loop-place.place = omega arith in
+    let its = path-at c.args.paths.now c.loop-place.place (omega arith) in
+    count-next c.args.member (paths_over c.args.member (memory_of c.args.self.now.state)) c.args.paths.now c.loop-place.place (c.loop-place.place + 1) its.0 c.loop-place.count c.counted-count.result
+    c.is_new_over.result next its.1 c.loop-place.invariant (c.is_new_over.ensures its.0 its.1) c.counted-count.ensures
+
+pub returns : goal.returns
+returns c =
+    let past : length c.args.paths.now ≤ c.loop-place.place = omega arith in
+    ap (λ (n : ℕ). nat_lt MOST_PATHS n)
+    (count-end c.args.member (paths_over c.args.member (memory_of c.args.self.now.state)) c.args.paths.now c.loop-place.place c.loop-place.count past c.loop-place.invariant)

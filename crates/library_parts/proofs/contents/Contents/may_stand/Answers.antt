@@ -18,11 +18,11 @@ returns-in-Key c =
     let paths = c.args.self.now.room.paths.paths in
     let its : OpenedFile = record { opened = opened.state; file = file } in
     let bases = bases_in c.args.self.now.state.files in
-    let keyed = order-keyed bases paths file opened.state opened.order c.requires.unjoined c.requires.so c.requires.by in
+    let keyed = order-keyed bases paths file opened.state opened.order c.requires.so c.requires.by in
     let formats = formats-by paths (path_read bases file opened.state) opened.order c.requires.by in
     let may = rw c.as_slice.ensures at c.may_have_key.ensures in
     rw c.in-Key.is
-    (stands-key bases its c.in-Key.values c.may_have_key.result c.requires.unjoined c.requires.so
+    (stands-key bases its c.in-Key.values c.may_have_key.result c.requires.so
     (subst (λ (fs : List (List KeyPart)). MayHaveKey (is_keyed file opened.state) (merged_parts fs) c.in-Key.values c.may_have_key.result) (sym formats)
     (subst (λ (b : Bool). MayHaveKey b (merged_parts opened.order.formats) c.in-Key.values c.may_have_key.result) keyed may)))
 
@@ -33,7 +33,7 @@ returns-in-LowValue c =
     let paths = c.args.self.now.room.paths.paths in
     let its : OpenedFile = record { opened = opened.state; file = file } in
     let bases = bases_in c.args.self.now.state.files in
-    let keyed = order-keyed bases paths file opened.state opened.order c.requires.unjoined c.requires.so c.requires.by in
+    let keyed = order-keyed bases paths file opened.state opened.order c.requires.so c.requires.by in
     rw c.in-LowValue.is (stands-low its c.reads_so.result (subst (λ (b : Bool). ReadsSo b true c.reads_so.result) keyed c.reads_so.ensures))
 
 pub returns-in-HighValue : goal.returns-in-HighValue
@@ -43,7 +43,7 @@ returns-in-HighValue c =
     let paths = c.args.self.now.room.paths.paths in
     let its : OpenedFile = record { opened = opened.state; file = file } in
     let bases = bases_in c.args.self.now.state.files in
-    let keyed = order-keyed bases paths file opened.state opened.order c.requires.unjoined c.requires.so c.requires.by in
+    let keyed = order-keyed bases paths file opened.state opened.order c.requires.so c.requires.by in
     rw c.in-HighValue.is (stands-high its c.reads_so-in-HighValue.result (subst (λ (b : Bool). ReadsSo b true c.reads_so-in-HighValue.result) keyed c.reads_so-in-HighValue.ensures))
 
 pub returns-in-RecordNumber : goal.returns-in-RecordNumber
@@ -53,6 +53,6 @@ returns-in-RecordNumber c =
     let paths = c.args.self.now.room.paths.paths in
     let its : OpenedFile = record { opened = opened.state; file = file } in
     let bases = bases_in c.args.self.now.state.files in
-    let keyed = order-keyed bases paths file opened.state opened.order c.requires.unjoined c.requires.so c.requires.by in
+    let keyed = order-keyed bases paths file opened.state opened.order c.requires.so c.requires.by in
     rw c.in-RecordNumber.is
     (stands-number its _ c.takes_numbers.result (subst (λ (b : Bool). TakesNumbers b (has_numbers file.spec) c.takes_numbers.result) keyed c.takes_numbers.ensures))

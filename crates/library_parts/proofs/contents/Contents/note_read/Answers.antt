@@ -12,6 +12,7 @@ use Rattle.library_steps.specs.Reads.{entry_found, has_read}
 use Rattle.library_steps.specs.Records.{is_keyed, reading_of}
 use Rattle.library_steps.specs.Refusals.{OpenedFile}
 use Rattle.library_steps.specs.State.{memory_of}
+use Rattle.library_parts.specs.Indexed.{IsUnjoined}
 use Rattle.library_parts.specs.Parts.{state_of}
 use Rattle.library_parts.specs.Reads.{IsLookedIn, ReadsAmong, formats_read, found_by, has_positions}
 use Rattle.library_parts.proofs.DueLemmas.{HasDue-kept}
@@ -25,6 +26,12 @@ use Rattle.library_parts.proofs.contents.Contents.note_read.Goals as goal
 
 pub found_open-its-requires-clause-named : goal.found_open-its-requires-clause-named
 found_open-its-requires-clause-named c = (c.requires.found.its, c.requires.found.opened)
+
+pub reads_there-requires-clause-unjoined : goal.reads_there-requires-clause-unjoined
+reads_there-requires-clause-unjoined c =
+    let its : OpenedFile = record { opened = c.found_open-its.result.opened.now.state; file = c.found_open-its.result.file.now } in
+    let same : c.requires.found.its ≡ its = found-same _ c.requires.found.its its c.requires.found.opened c.found_open-its.ensures.found in
+    subst (λ (o : OpenedFile). IsUnjoined o.file.spec) same c.requires.found.unjoined
 
 pub kept_open-opened-requires-clause-there : goal.kept_open-opened-requires-clause-there
 kept_open-opened-requires-clause-there c = let shows = rw (← c.self.view_is) at c.found_open-its.ensures.shows in ap is_some shows
@@ -157,7 +164,7 @@ invariant_of-self c =
     let all = of-number c.number-number.result kept.order (λ (order : OpenOrder). entry_hit (merged_parts order.formats) c.unwrap-hit.result ≡ entry) (orders_at c.args.job inside.jobs) numbered its_entry.is in
     rw (c.note_read.ensures entry all) (
       AreOne-open_at _ _ _ c.number-number.result (has_read c.args.call (entry_found entry)) c.self.invariant.0
-          (keeps-read inside.catalogue.files c.self.invariant.2.views inside.paths.paths c.number-number.result kept.order c.args.call entry its_entry.format _ inside.jobs.jobs inside.jobs.orders
+          (keeps-read inside.catalogue.files c.self.invariant.2.views inside.paths.paths c.number-number.result kept.order c.args.call (entry_found entry) its_entry.format _ inside.jobs.jobs inside.jobs.orders
           c.len-jobs.ensures.ordered c.self.invariant.2.orders numbered),
       HasDue-kept _ _ _ _ _ (λ job. refl) c.self.invariant.1,
       IsIndexed-has_read _ _ _ _ _ _ _ c.number-number.result c.args.call entry c.self.invariant.2,

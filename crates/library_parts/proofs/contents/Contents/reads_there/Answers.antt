@@ -13,7 +13,7 @@ returns-clause-among c =
     let reads = rw (← c.self.view_is) at c.requires.reads in
     rw (← c.self.view_is)
     (reads-among s inside.jobs.orders inside.jobs.moves inside.paths c.len-files.ensures.keyed c.self.invariant.0.lawful c.at-member.ensures.lawful c.kept-paths.ensures.shared
-    c.kept-paths.ensures.rooms c.self.invariant.2 opened.state opened.order c.args.file.now has reads.by reads.unjoined)
+    c.kept-paths.ensures.rooms c.self.invariant.2 opened.state opened.order c.args.file.now has reads.by c.requires.unjoined)
 
 pub returns-clause-formats : goal.returns-clause-formats
 returns-clause-formats c =
@@ -21,10 +21,10 @@ returns-clause-formats c =
 
 pub returns-clause-keyed : goal.returns-clause-keyed
 returns-clause-keyed c =
-    order-keyed (bases_in c.args.self.now.state.files) c.args.self.now.room.paths.paths c.args.file.now c.args.opened.now.state c.args.opened.now.order c.requires.reads.unjoined c.requires.reads.so
+    order-keyed (bases_in c.args.self.now.state.files) c.args.self.now.room.paths.paths c.args.file.now c.args.opened.now.state c.args.opened.now.order c.requires.reads.so
     c.requires.reads.by
 
-pub returns-clause-as_many : goal.returns-clause-as_many
-returns-clause-as_many c =
-    formats-many c.args.self.now.state.files c.args.self.now.room.paths.paths c.args.file.now c.args.opened.now.state c.args.opened.now.order c.requires.member.there c.requires.reads.unjoined
+pub returns-clause-few : goal.returns-clause-few
+returns-clause-few c =
+    formats-many c.args.self.now.state.files c.args.self.now.room.paths.paths c.args.file.now c.args.opened.now.state c.args.opened.now.order c.requires.member.there
     c.requires.member.holds c.requires.reads.so c.requires.reads.by

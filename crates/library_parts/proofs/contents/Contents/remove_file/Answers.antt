@@ -1,13 +1,13 @@
-use Rattle.std.proofs.Common.{◌≡◌, ◌∙◌, ℕ, ◌+◌, ◌-◌, IsSome, ap, arith}
+use Rattle.std.proofs.Common.{◌≡◌, ◌∙◌, ℕ, ◌+◌, ◌-◌, IsSome, ap, arith, subst}
 use Rattle.member_slots.specs.Members.{NumberedMembers, item_at}
 use Rattle.library_model.specs.Named.{Named}
 use Rattle.library_steps.specs.DeleteFile.{without_members}
 use Rattle.library_steps.specs.Ranges.{library_bytes}
 use Rattle.library_steps.specs.State.{MemberStatus}
-use Rattle.path_set.specs.KeptPaths.{spare_of}
+use Rattle.path_set.specs.KeptPaths.{NumberedPaths, spare_of}
 use Rattle.library_parts.specs.Parts.{state_of}
-use Rattle.library_parts.specs.PathChanges.{detached_from, without_paths}
-use Rattle.library_parts.proofs.IndexDetached.{some-from}
+use Rattle.library_parts.specs.PathChanges.{detached_each, without_paths}
+use Rattle.library_parts.proofs.IndexDetached.{some-each}
 use Rattle.library_parts.proofs.IndexDeleted.{IsIndexed-without_file}
 use Rattle.lawful_states.proofs.DeleteLemmas.{AreOne-deleted, free-independent}
 use Rattle.library_parts.proofs.contents.Contents.remove_file.Goals as goal
@@ -27,15 +27,16 @@ invariant_of-self c =
     let alone = rw (← c.self.view_is) at c.requires.alone in
     let free = free-independent name parts.catalogue.files alone in
     let unused = (rw (← c.self.view_is) at c.requires.unused) file c.remove-file.ensures.file in
-    let path = rw (← c.self.view_is) at c.requires.path in
-    let paths = c.detach_own.ensures.paths
-    ∙ ap (detached_from c.args.path) (c.detach_paths.ensures.paths ∙ ap (λ (names : Named MemberStatus). without_paths names parts.paths.paths) c.members-gone.ensures) in
-    let spares : (number : ℕ) → IsSome (item_at number c.detach_own.new.paths.paths) → spare_of number c.detach_own.new.paths ≡ spare_of number parts.paths = λ number there. c.detach_own.ensures.spares number there
-    ∙ c.detach_paths.ensures.spares number (some-from c.args.path number c.detach_paths.new.paths.paths (rw c.detach_own.ensures.paths at there)) in
+    let ids = c.args.paths.now in
+    let own = rw (← c.self.view_is) at c.requires.paths in
+    let paths = c.detach_each.ensures.paths
+    ∙ ap (detached_each ids) (c.detach_paths.ensures.paths ∙ ap (λ (names : Named MemberStatus). without_paths names parts.paths.paths) c.members-gone.ensures) in
+    let spares : (number : ℕ) → IsSome (item_at number c.detach_each.new.paths.paths) → spare_of number c.detach_each.new.paths ≡ spare_of number parts.paths = λ number there. c.detach_each.ensures.spares number there
+    ∙ c.detach_paths.ensures.spares number (some-each ids number c.detach_paths.new.paths.paths (subst (λ (p : NumberedPaths). IsSome (item_at number p)) c.detach_each.ensures.paths there)) in
     rw (c.remove-file.ensures.removed, taken.ensures.gone, c.members-gone.ensures) (
       AreOne-deleted state parts.member_bytes (parts.member_bytes - taken.result) name file c.self.invariant.0 c.len-len.ensures.apart free c.remove-file.ensures.file unused
           (omega (arith, counted, left, bytes)) (omega arith),
       c.self.invariant.1,
       IsIndexed-without_file state name file c.self.invariant.0.lawful c.len-len.ensures.unique c.len-len.ensures.apart c.remove-file.ensures.file alone parts.jobs.orders parts.jobs.moves
-          c.args.path parts.paths c.detach_own.new.paths c.kept-kept.ensures.shared path unused paths spares c.self.invariant.2,
+          ids parts.paths c.detach_each.new.paths c.kept-kept.ensures.shared own unused paths spares c.self.invariant.2,
     )

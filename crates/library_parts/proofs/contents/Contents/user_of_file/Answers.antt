@@ -1,13 +1,8 @@
 use Rattle.std.proofs.Common.{◌∙◌, sym, ap}
 use Rattle.std.specs.Option.{option_copied}
 use Rattle.library_steps.specs.State.{memory_of}
-use Rattle.library_parts.proofs.UserKinds.{user-logical, user-physical, view-unjoined}
+use Rattle.library_parts.proofs.UserKinds.{user-logical, user-physical}
 use Rattle.library_parts.proofs.contents.Contents.user_of_file.Goals as goal
-
-pub user_of_view-requires : goal.user_of_view-requires
-user_of_view-requires c =
-    let is = sym (ap option_copied c.in-Some.is) ∙ c.logical.ensures in
-    view-unjoined c.args.file.now.spec c.in-Some.view.now is c.requires
 
 pub returns-in-Some : goal.returns-in-Some
 returns-in-Some c =

@@ -1,5 +1,0 @@
-use Rattle.draft_list.proofs.DepositLemmas.{Leaves-drafts}
-use Rattle.draft_list.proofs.deposits.deposits_leave.Goals as goal
-
-pub returns : goal.returns
-returns c = λ old mid new drafts forced reply m is gone kept left. Leaves-drafts old mid new drafts forced reply m is gone kept left

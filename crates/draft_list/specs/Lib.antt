@@ -1,2 +1,0 @@
-pub mod Deposits
-pub mod Sizes

@@ -1,0 +1,4 @@
+pub mod WellLemmas
+pub mod SwitchLemmas
+pub mod OutcomeLemmas
+pub mod FrontLemmas

@@ -1,0 +1,7 @@
+use Rattle.std.proofs.Common.{Some}
+use Rattle.library_parts.specs.Reads.{IsNumberOf}
+use Rattle.library_parts.proofs.MadeLemmas.{AreMade}
+use Rattle.library_parts.proofs.reading.numbers_kept.Given as goal
+
+abbrev pub invariant-loop-spec : goal.invariant-loop-spec
+invariant-loop-spec l = AreMade (λ spec id. IsNumberOf spec (Some id) l.paths.paths) l.specs l.spec-index l.ids

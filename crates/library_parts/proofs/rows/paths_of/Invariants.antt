@@ -1,0 +1,8 @@
+use Rattle.std.proofs.Common.{Bor, Some, map}
+use Rattle.key_pages.specs.EntryList.{EntryList}
+use Rattle.path_set.specs.KeptPaths.{pages_at}
+use Rattle.library_parts.proofs.RowsOver.{IsGathered}
+use Rattle.library_parts.proofs.rows.paths_of.Given as goal
+
+abbrev pub invariant-loop-id : goal.invariant-loop-id
+invariant-loop-id l = IsGathered (pages_at l.paths) l.ids l.id-index (map (λ (path : Bor EntryList). Some path.now) l.found.items)

@@ -1,0 +1,9 @@
+pub mod NamesLemmas
+pub mod FileLemmas
+pub mod CountedLemmas
+pub mod ShownLemmas
+pub mod StandLemmas
+pub mod LeavesLemmas
+pub mod TakenLemmas
+pub mod RunLemmas
+pub mod RestartLemmas
