@@ -10,21 +10,21 @@ use Rattle.std.proofs.lemmas.List.Elements.{recursion_from_All}
 use Rattle.key_spec.specs.declared.KeyPart.{KeyPart}
 use Rattle.key_spec.specs.declared.Ties.{Ties}
 use Rattle.key_spec.specs.declared.Ties.TheVariants.{Rising, Falling}
-use Rattle.key_pages.specs.declared.entries.Entry.{Entry}
-use Rattle.key_pages.specs.Order.{entry_cmp, tie_cmp}
+use Rattle.key_order.below.key_pages.specs.declared.entries.Entry.{Entry}
+use Rattle.key_order.specs.Order.{entry_cmp, tie_cmp}
 use Rattle.member_slots.specs.declared.slot.Slot.{Slot}
 use Rattle.member_slots.specs.declared.slot.Slot.TheVariants.{Live, Deleted}
 use Rattle.member_slots.specs.Member.{records_from}
 use Rattle.member_slots.specs.Members.{NumberedMembers, member_of}
-use Rattle.file_model.specs.declared.paths.PathFormat.{PathFormat}
-use Rattle.file_model.specs.declared.paths.PathSpec.{PathSpec}
-use Rattle.file_model.specs.KeyOrder.{compare_keys, key_of}
-use Rattle.file_model.specs.Selection.{selects}
-use Rattle.file_model.specs.Views.{view_of}
-use Rattle.file_model.specs.Sorting.{put_in_order, in_order}
-use Rattle.file_model.specs.Paths as model
-use Rattle.file_model.specs.Paths.{PathEntry, compare_ties, compare_entries, entry_of, selected_of, path}
-use Rattle.file_model.proofs.PathLemmas.{weaker, all-map, all-append}
+use Rattle.key_order.below.file_model.specs.declared.paths.PathFormat.{PathFormat}
+use Rattle.key_order.below.file_model.specs.declared.paths.PathSpec.{PathSpec}
+use Rattle.key_order.specs.KeyOrder.{compare_keys, key_of}
+use Rattle.key_order.specs.Selection.{selects}
+use Rattle.key_order.specs.Views.{view_of}
+use Rattle.key_order.specs.Sorting.{put_in_order, in_order}
+use Rattle.key_order.specs.Paths as model
+use Rattle.key_order.specs.Paths.{PathEntry, compare_ties, compare_entries, entry_of, selected_of, path}
+use Rattle.key_order.proofs.PathLemmas.{weaker, all-map, all-append}
 use Rattle.key_order.specs.KeyBytes.{key_bytes}
 use Rattle.key_order.specs.KeyFields.{AreBytes, Matches}
 use Rattle.key_order.proofs.KeyLemmas.{AreFit, keys-cmp, image-fits, Matches-itself, Matches-back}

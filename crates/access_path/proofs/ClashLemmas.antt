@@ -8,15 +8,15 @@ use Rattle.std.specs.declared.cmp.Ordering.TheVariants.{Less, Equal, Greater}
 use Rattle.std.specs.Ordering.{nat_cmp, ordering_then, ordering_reverse, is_lt, is_gt, is_le, is_eq}
 use Rattle.std.proofs.lemmas.Bool.{cond-true, cond-false}
 use Rattle.std.proofs.lemmas.Cmp.{tied_itself, nat_list_cmp_total}
-use Rattle.key_pages.specs.declared.entries.Entry.{Entry}
-use Rattle.key_pages.specs.declared.positions.Position.{Position}
-use Rattle.key_pages.specs.declared.positions.Position.TheVariants.{Start, End, Before, On, Past}
-use Rattle.key_pages.specs.Order.{key_cmp, tie_cmp, entry_cmp, IsInOrder}
-use Rattle.key_pages.specs.Position.{is_less, side_of, is_past, IsOn}
-use Rattle.key_pages.proofs.OrderLemmas.{entry_total}
-use Rattle.key_pages.proofs.SideLemmas.{passed_before}
+use Rattle.key_order.below.key_pages.specs.declared.entries.Entry.{Entry}
+use Rattle.key_order.below.key_pages.specs.declared.positions.Position.{Position}
+use Rattle.key_order.below.key_pages.specs.declared.positions.Position.TheVariants.{Start, End, Before, On, Past}
+use Rattle.key_order.specs.Order.{key_cmp, tie_cmp, entry_cmp, IsInOrder}
+use Rattle.key_order.specs.Position.{is_less, side_of, is_past, IsOn}
+use Rattle.key_order.proofs.KeyPagesOrderLemmas.{entry_total}
+use Rattle.key_order.proofs.SideLemmas.{passed_before}
 use Rattle.std.proofs.lemmas.List.Kept.{IsStrictlySortedBy-filter}
-use Rattle.file_model.proofs.PathLemmas.{weaker}
+use Rattle.key_order.proofs.PathLemmas.{weaker}
 use Rattle.access_path.specs.Clash.{lesser, other_number, least_other, with_key}
 
 -- on an entry, sides are those of the entry

@@ -3,14 +3,14 @@ use Rattle.std.proofs.Common.{◌≡◌, ℕ, ◌+◌, ◌<◌, ◌≤◌, Bool,
 use Rattle.std.specs.Prelude.{◌≢◌}
 use Rattle.std.specs.List.{AllByRecursion}
 use Rattle.std.specs.declared.cmp.Ordering.TheVariants.{Equal}
-use Rattle.key_pages.specs.declared.entries.Entry.{Entry}
-use Rattle.key_pages.specs.Order.{entry_cmp, IsInOrder}
-use Rattle.key_pages.proofs.OrderLemmas.{entry_total, entry_exact}
+use Rattle.key_order.below.key_pages.specs.declared.entries.Entry.{Entry}
+use Rattle.key_order.specs.Order.{entry_cmp, IsInOrder}
+use Rattle.key_order.proofs.KeyPagesOrderLemmas.{entry_total, entry_exact}
 use Rattle.member_slots.specs.declared.slot.Slot.{Slot}
 use Rattle.member_slots.specs.declared.slot.Slot.TheVariants.{Deleted}
 use Rattle.std.proofs.lemmas.List.{append-nil}
-use Rattle.file_model.specs.Sorting.{in_order}
-use Rattle.file_model.proofs.PathLemmas.{weaker, all-append}
+use Rattle.key_order.specs.Sorting.{in_order}
+use Rattle.key_order.proofs.PathLemmas.{weaker, all-append}
 use Rattle.access_path.specs.KeptEntries.{KeyOf, slot_key, entry_with, entries_at, entries_in, entries_from, kept}
 use Rattle.access_path.proofs.OrderedLemmas.{Pairwise, pairwise-append, in_order-strict}
 

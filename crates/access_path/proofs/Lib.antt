@@ -5,3 +5,7 @@ pub mod BytesLemmas
 pub mod RebuildLemmas
 pub mod ClashLemmas
 pub mod MemberLemmas
+pub use Rattle.key_order.proofs.FitLemmas
+pub use Rattle.key_order.proofs.KeyLemmas
+pub use Rattle.key_order.proofs.ViewLemmas
+pub use Rattle.key_order.proofs.WidthLemmas

@@ -6,15 +6,15 @@ use Rattle.std.specs.declared.cmp.Ordering.TheVariants.{Equal}
 use Rattle.std.specs.Ordering.{is_ne}
 use Rattle.std.proofs.lemmas.Cmp.{tied_itself}
 use Rattle.std.proofs.lemmas.List.Elements.{All-from_recursion, All-contains, filter_passes}
-use Rattle.key_pages.specs.declared.entries.Entry.{Entry}
-use Rattle.key_pages.specs.Order.{entry_cmp, IsInOrder}
-use Rattle.key_pages.specs.EntryList.{with_entry, without_entry}
-use Rattle.key_pages.proofs.OrderLemmas.{entry_total, entry_exact, IsInOrder-without_entry}
+use Rattle.key_order.below.key_pages.specs.declared.entries.Entry.{Entry}
+use Rattle.key_order.specs.Order.{entry_cmp, IsInOrder}
+use Rattle.key_order.specs.EntryList.{with_entry, without_entry}
+use Rattle.key_order.proofs.KeyPagesOrderLemmas.{entry_total, entry_exact, IsInOrder-without_entry}
 use Rattle.member_slots.specs.declared.slot.Slot.{Slot}
 use Rattle.member_slots.specs.declared.slot.Slot.TheVariants.{Deleted}
-use Rattle.file_model.specs.Sorting.{put_in_order, in_order}
-use Rattle.file_model.proofs.SortLemmas.{in_order-middle}
-use Rattle.file_model.proofs.PathLemmas.{weaker, all-append}
+use Rattle.key_order.specs.Sorting.{put_in_order, in_order}
+use Rattle.key_order.proofs.SortLemmas.{in_order-middle}
+use Rattle.key_order.proofs.PathLemmas.{weaker, all-append}
 use Rattle.access_path.specs.KeptEntries.{KeyOf, slot_key, entry_with, entries_at, entries_in, entries_from, kept}
 use Rattle.access_path.specs.Moves.{Move, opposite, without_key, with_key, taken, moved, FitsIn}
 use Rattle.access_path.proofs.OrderedLemmas.{all-in_order, taken-put, parted-put, put-taken, contains-put}

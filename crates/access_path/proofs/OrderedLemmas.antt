@@ -8,12 +8,12 @@ use Rattle.std.specs.declared.cmp.Ordering.TheVariants.{Less, Equal, Greater}
 use Rattle.std.specs.Ordering.{ordering_reverse, is_lt, is_gt, is_ne}
 use Rattle.std.specs.Cmp.{IsTotalOrder}
 use Rattle.std.proofs.lemmas.Bool.{cond_both, cond-true, cond-false}
-use Rattle.file_model.specs.Sorting.{put_in_order, in_order}
-use Rattle.file_model.proofs.SortLemmas.{put-before, put-behind}
+use Rattle.key_order.specs.Sorting.{put_in_order, in_order}
+use Rattle.key_order.proofs.SortLemmas.{put-before, put-behind}
 use Rattle.std.proofs.lemmas.Cmp.{tied_itself}
 use Rattle.std.proofs.lemmas.List.Elements.{All-contains, All-from_recursion}
-use Rattle.file_model.proofs.OrderLemmas.{less-equal, greater-equal}
-use Rattle.file_model.proofs.PathLemmas.{weaker, all-append}
+use Rattle.key_order.proofs.OrderLemmas.{less-equal, greater-equal}
+use Rattle.key_order.proofs.PathLemmas.{weaker, all-append}
 
 less-equal-not : Less ≡ Greater → ⊥
 less-equal-not h = cc

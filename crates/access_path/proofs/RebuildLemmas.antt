@@ -6,14 +6,14 @@ use Rattle.std.specs.Ordering.{is_lt, is_gt}
 use Rattle.std.specs.declared.cmp.Ordering.TheVariants.{Equal}
 use Rattle.std.proofs.lemmas.List.{append-nil}
 use Rattle.std.proofs.lemmas.List.Elements.{All-from_recursion, recursion_from_All, All-contains}
-use Rattle.key_pages.specs.declared.entries.Entry.{Entry}
-use Rattle.key_pages.specs.Order.{entry_cmp, IsInOrder}
-use Rattle.key_pages.specs.EntryList.{with_entry}
-use Rattle.key_pages.proofs.OrderLemmas.{entry_total}
+use Rattle.key_order.below.key_pages.specs.declared.entries.Entry.{Entry}
+use Rattle.key_order.specs.Order.{entry_cmp, IsInOrder}
+use Rattle.key_order.specs.EntryList.{with_entry}
+use Rattle.key_order.proofs.KeyPagesOrderLemmas.{entry_total}
 use Rattle.member_slots.specs.declared.slot.Slot.{Slot}
-use Rattle.file_model.specs.Sorting.{put_in_order, in_order}
-use Rattle.file_model.proofs.SortLemmas.{in_order-middle}
-use Rattle.file_model.proofs.PathLemmas.{weaker, all-append, all-filter}
+use Rattle.key_order.specs.Sorting.{put_in_order, in_order}
+use Rattle.key_order.proofs.SortLemmas.{in_order-middle}
+use Rattle.key_order.proofs.PathLemmas.{weaker, all-append, all-filter}
 use Rattle.access_path.specs.KeptEntries.{KeyOf, slot_key, entries_at, entries_in, entries_from, kept}
 use Rattle.member_slots.specs.Member.{MemberState, slot_at}
 use Rattle.member_slots.specs.Members.{NumberedMembers, member_of}

@@ -1,8 +1,8 @@
 -- Which other record has a key? (DDS for Physical and Logical Files, "UNIQUE".)
 use Rattle.std.specs.Prelude.{ℕ, min, not, ◌&&◌, ◌==◌, Option, Some, None, List, [], ◌∷◌, if◌then◌else◌}
 use Rattle.std.specs.Ordering.{is_eq}
-use Rattle.key_pages.specs.declared.entries.Entry.{Entry}
-use Rattle.key_pages.specs.Order.{key_cmp}
+use Rattle.key_order.below.key_pages.specs.declared.entries.Entry.{Entry}
+use Rattle.key_order.specs.Order.{key_cmp}
 
 -- the lesser of two numbers, where both are there
 abbrev pub lesser : Option ℕ → Option ℕ → Option ℕ

@@ -1,10 +1,10 @@
 -- Which entries does a kept access path have? (Database Programming, "Describing access paths for database files".)
 use Rattle.std.specs.Prelude.{ℕ, ◌+◌, Bool, Option, Some, None, List, [], ◌∷◌, ◌++◌}
-use Rattle.key_pages.specs.declared.entries.Entry.{Entry}
-use Rattle.key_pages.specs.Order.{entry_cmp}
+use Rattle.key_order.below.key_pages.specs.declared.entries.Entry.{Entry}
+use Rattle.key_order.specs.Order.{entry_cmp}
 use Rattle.member_slots.specs.declared.slot.Slot.{Slot}
 use Rattle.member_slots.specs.declared.slot.Slot.TheVariants.{Live, Deleted}
-use Rattle.file_model.specs.Sorting.{in_order}
+use Rattle.key_order.specs.Sorting.{in_order}
 
 -- the bytes of the key that a format has of an image; none where it doesn't select it
 abbrev pub KeyOf : Type 0

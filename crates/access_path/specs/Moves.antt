@@ -1,8 +1,8 @@
 -- What does a change of one record make of the entries of a format? (Database Programming, "Describing access paths for
 -- database files".)
 use Rattle.std.specs.Prelude.{ℕ, Bool, Option, Some, None, List, Contains, IfSome}
-use Rattle.key_pages.specs.declared.entries.Entry.{Entry}
-use Rattle.key_pages.specs.EntryList.{with_entry, without_entry}
+use Rattle.key_order.below.key_pages.specs.declared.entries.Entry.{Entry}
+use Rattle.key_order.specs.EntryList.{with_entry, without_entry}
 use Rattle.access_path.specs.KeptEntries.{entry_with}
 
 -- the keys that a format has of a record before a change and after it

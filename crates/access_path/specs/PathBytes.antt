@@ -3,13 +3,13 @@ use Rattle.std.specs.Prelude.{◌≡◌, ℕ, ◌+◌, Bool, true, false, Option
 use Rattle.key_spec.specs.declared.KeyPart.{KeyPart}
 use Rattle.key_spec.specs.declared.Ties.{Ties}
 use Rattle.key_spec.specs.declared.Ties.TheVariants.{Rising, Falling}
-use Rattle.key_pages.specs.declared.entries.Entry.{Entry}
+use Rattle.key_order.below.key_pages.specs.declared.entries.Entry.{Entry}
 use Rattle.member_slots.specs.Members.{NumberedMembers, member_of}
-use Rattle.file_model.specs.declared.paths.PathFormat.{PathFormat}
-use Rattle.file_model.specs.declared.paths.PathSpec.{PathSpec}
-use Rattle.file_model.specs.Selection.{selects}
-use Rattle.file_model.specs.Views.{view_of}
-use Rattle.file_model.specs.Paths.{PathEntry, selected_of}
+use Rattle.key_order.below.file_model.specs.declared.paths.PathFormat.{PathFormat}
+use Rattle.key_order.below.file_model.specs.declared.paths.PathSpec.{PathSpec}
+use Rattle.key_order.specs.Selection.{selects}
+use Rattle.key_order.specs.Views.{view_of}
+use Rattle.key_order.specs.Paths.{PathEntry, selected_of}
 use Rattle.key_order.specs.KeyBytes.{key_bytes, encoded}
 use Rattle.key_order.specs.KeyFields.{AreBytes, Matches}
 use Rattle.access_path.specs.KeptEntries.{KeyOf}

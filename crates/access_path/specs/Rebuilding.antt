@@ -1,7 +1,7 @@
 -- How does a path come from nothing? (Our own.)
 use Rattle.std.specs.Prelude.{ℕ, ◌+◌, ◌<◌, ◌≤◌, Bool, List, [], ◌∷◌, map, All}
-use Rattle.key_pages.specs.declared.entries.Entry.{Entry}
-use Rattle.key_pages.specs.EntryList.{with_entry}
+use Rattle.key_order.below.key_pages.specs.declared.entries.Entry.{Entry}
+use Rattle.key_order.specs.EntryList.{with_entry}
 use Rattle.member_slots.specs.declared.slot.Slot.{Slot}
 use Rattle.member_slots.specs.declared.slot.Slot.TheVariants.{Live, Deleted}
 use Rattle.member_slots.specs.Members.{NumberedMembers, member_of}

@@ -1,10 +1,10 @@
 //! Another record with a key.
 ghost use Rattle.std.specs.Prelude.{◌≡◌, if◌then◌else◌, Some, None, nat_eq};
 ghost use Rattle.std.specs.Option.{option_copied};
-ghost use Rattle.key_pages.specs.Position.{next_entry, IsOn};
+ghost use Rattle.key_order.specs.Position.{next_entry, IsOn};
 ghost use Rattle.access_path.specs.Clash.{lesser, other_number, least_other, with_key};
 
-use key_pages::{Entry, EntryRef, Pages, Position};
+use key_order::key_pages::{Entry, EntryRef, Pages, Position};
 
 /// The least number of another record that has the key.
 pub(crate) fn least_other(pages: &Pages, key: &[u8], rrn: u32) -> Option<u32>

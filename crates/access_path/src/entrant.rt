@@ -1,7 +1,7 @@
 //! What a path asks of the file whose path it is.
 ghost use Rattle.std.specs.Prelude.{◌≡◌, ◌<◌, ℕ, List, Option, IfOk, length, slice_index};
 
-use key_pages::Key;
+use key_order::key_pages::Key;
 use std::alloc::{AllocError, Global};
 
 /// The formats of a file: which records of its members each selects, and under which keys.

@@ -2,12 +2,12 @@
 ghost use Rattle.std.specs.Prelude.{◌≡◌, ◌+◌, ℕ, Bool, List, [], ◌∷◌, ◌++◌, length, map};
 ghost use Rattle.member_slots.specs.declared.slot.Slot.{Slot};
 ghost use Rattle.member_slots.specs.declared.slot.Slot.TheVariants.{Deleted};
-ghost use Rattle.key_pages.specs.declared.entries.Entry.{Entry};
-ghost use Rattle.key_pages.specs.Order.{IsInOrder};
+ghost use Rattle.key_order.below.key_pages.specs.declared.entries.Entry.{Entry};
+ghost use Rattle.key_order.specs.Order.{IsInOrder};
 ghost use Rattle.access_path.specs.KeptEntries.{KeyOf, slot_key, kept};
 ghost use Rattle.member_slots.specs.Members.{NumberedMembers};
-ghost use Rattle.file_model.specs.declared.paths.PathSpec.{PathSpec};
-ghost use Rattle.file_model.specs.Paths.{path};
+ghost use Rattle.key_order.below.file_model.specs.declared.paths.PathSpec.{PathSpec};
+ghost use Rattle.key_order.specs.Paths.{path};
 ghost use Rattle.access_path.specs.PathBytes.{is_falling, AreKeysFrom, members_of, in_bytes, IsInBytes};
 ghost use Rattle.access_path.specs.Rebuilding.{member_slots};
 ghost use Rattle.access_path.specs.Moves.{Move, opposite, moved, FitsIn};

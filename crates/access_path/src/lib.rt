@@ -9,3 +9,5 @@ pub mod path;
 pub mod paths;
 pub mod prepared;
 mod rebuilding;
+
+pub use key_order;

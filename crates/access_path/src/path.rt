@@ -11,7 +11,7 @@ use crate::clash;
 use crate::entrant::Entrant;
 use crate::prepared::Prepared;
 use crate::rebuilding::{add_formats, add_formats_with};
-use key_pages::{Entry, EntryRef, Key, Pages};
+use key_order::key_pages::{Entry, EntryRef, Key, Pages};
 use member_slots::member::Member;
 use member_slots::members::Members;
 use std::alloc::{AllocError, Global};
@@ -27,7 +27,7 @@ pub struct Path {
 
 impl Model for Path {
     ghost use Rattle.std.specs.Prelude.{◌≡◌};
-    ghost use Rattle.key_pages.specs.EntryList.{EntryList};
+    ghost use Rattle.key_order.specs.EntryList.{EntryList};
 
     ghost Value = { EntryList };
 

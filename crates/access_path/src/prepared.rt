@@ -1,5 +1,5 @@
 //! A change of one record in one format that needs no memory any more, neither to be done nor to be undone.
-use key_pages::Key;
+use key_order::key_pages::Key;
 use std::marker::Model;
 
 /// A prepared change. Contracts see it as the move that it makes.

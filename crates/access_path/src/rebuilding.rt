@@ -1,12 +1,12 @@
 //! The entries of members, put into a path one after another.
 ghost use Rattle.std.specs.Prelude.{◌≡◌, ◌+◌, ◌≤◌, [], All, Contains, IsSome, OnOk, length, slice_index, ◌<◌};
 ghost use Rattle.member_slots.specs.Members.{member_at, member_of, with_member};
-ghost use Rattle.key_pages.specs.EntryList.{with_entry};
+ghost use Rattle.key_order.specs.EntryList.{with_entry};
 ghost use Rattle.access_path.specs.KeptEntries.{slot_key, entries_at, entries_in, entries_from, entry_with};
 ghost use Rattle.access_path.specs.Rebuilding.{member_slots, TakesSlot, TakesAll, added, IsBefore};
 
 use crate::entrant::Entrant;
-use key_pages::{Entry, Pages};
+use key_order::key_pages::{Entry, Pages};
 use member_slots::member::Member;
 use member_slots::members::Members;
 use member_slots::slot::Slot;

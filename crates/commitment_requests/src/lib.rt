@@ -7,3 +7,4 @@ pub mod control;
 
 pub use boundaries::{commit, end_job, rollback};
 pub use control::{end_commitment, start_commitment};
+pub use library_parts;

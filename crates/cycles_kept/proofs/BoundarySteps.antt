@@ -8,7 +8,7 @@ use Rattle.lock_table.specs.Table.{HoldsChange}
 use Rattle.lock_table.proofs.LawLemmas.{HoldsChange-others}
 use Rattle.journal_model.specs.Replay.{before_of}
 use Rattle.journal_model.specs.Rollback.{MemberChange}
-use Rattle.lawful_states.proofs.NameLemmas.{some-equal}
+use Rattle.joint_state.proofs.NameLemmas.{some-equal}
 use Rattle.library_model.specs.declared.replies.Reply.TheVariants.{NoDefinition, PendingChanges, InUse}
 use Rattle.library_model.specs.declared.requests.StartCommitment.{StartCommitment}
 use Rattle.library_steps.specs.State.{State, Memory, CycleState, JobState, memory_of, job_changed, job_of, with_opens}

@@ -41,10 +41,10 @@ use Rattle.library_steps.specs.Receivers.{change_journal, delete_receiver}
 use Rattle.library_steps.specs.Refusals.{member_of_file, named_or_refused, refuse_if, refuse_with, sequences_left}
 use Rattle.library_steps.specs.UniqueKeys.{all_apart, unique_paths}
 use Rattle.library_steps.specs.Uses.{changes_in, first_job, unused, user_of, user_of_any, uses}
-use Rattle.lawful_states.specs.Lawful.{CycleGoesBack, AllGoBack, GoesBack}
-use Rattle.lawful_states.proofs.BackLemmas.{neither, unused-unchanged}
-use Rattle.lawful_states.proofs.FileLemmas.{number-below}
-use Rattle.lawful_states.proofs.MemberLemmas.{item_at-put_item_other, item_at-without_item_other}
+use Rattle.joint_state.specs.Lawful.{CycleGoesBack, AllGoBack, GoesBack}
+use Rattle.joint_state.proofs.BackLemmas.{neither, unused-unchanged}
+use Rattle.joint_state.proofs.FileLemmas.{number-below}
+use Rattle.joint_state.proofs.MemberLemmas.{item_at-put_item_other, item_at-without_item_other}
 use Rattle.joint_state.specs.Sound.{IsSound}
 use Rattle.joint_state.proofs.OpenLemmas.{unused-members}
 use Rattle.cycles_kept.proofs.CycleLemmas.{HaveCycles, elsewhere, untouched}

@@ -6,10 +6,10 @@ use Rattle.std.specs.Option.{option_map, option_and_then}
 use Rattle.std.proofs.lemmas.Bool.{eqb-true}
 use Rattle.std.proofs.lemmas.Bool.Decides.{nat_tests}
 use Rattle.entry_codec.specs.declared.kinds.Images.{Images}
-use Rattle.lawful_states.specs.Owners.{has_number, numbers_of, Owns, AreApart}
-use Rattle.lawful_states.proofs.NameLemmas.{same_name-equal, some-equal}
-use Rattle.lawful_states.proofs.OwnerLemmas.{owner-status}
-use Rattle.lawful_states.proofs.StatusLemmas.{has_number-cons}
+use Rattle.joint_state.specs.Owners.{has_number, numbers_of, Owns, AreApart}
+use Rattle.joint_state.proofs.NameLemmas.{same_name-equal, some-equal}
+use Rattle.joint_state.proofs.OwnerLemmas.{owner-status}
+use Rattle.joint_state.proofs.StatusLemmas.{has_number-cons}
 use Rattle.library_model.specs.Named.{Named, named, same_name}
 use Rattle.library_steps.specs.State.{FileState, MemberStatus, status_changed}
 use Rattle.library_steps.specs.CreatePhysicalFile.{new_status}

@@ -11,8 +11,8 @@ use Rattle.file_model.specs.Paths.{PathEntry}
 use Rattle.file_model.specs.Positions.{Position}
 use Rattle.logical_model.specs.Bases.{FileSpec, PhysicalFile, LogicalFile, base_members}
 use Rattle.logical_model.specs.Readings.{join_in}
-use Rattle.lawful_states.specs.Owners.{has_number}
-use Rattle.lawful_states.proofs.StatusLemmas.{has_number-cons}
+use Rattle.joint_state.specs.Owners.{has_number}
+use Rattle.joint_state.proofs.StatusLemmas.{has_number-cons}
 use Rattle.library_model.specs.Named.{Named, named, same_name}
 use Rattle.library_model.specs.declared.replies.Reply.TheVariants as replies
 use Rattle.library_model.specs.declared.limits.TheConstants.{MOST_OPENS}
@@ -40,9 +40,9 @@ use Rattle.library_steps.specs.SlotChange.{NewSlot, change_made, cycle_for, imag
 use Rattle.library_steps.specs.Step.{change}
 use Rattle.library_steps.specs.Uses.{has_changed, has_open_over, unused, user_of, uses, has_boundary_lock}
 use Rattle.library_steps.specs.WriteRecord.{write_call, write_change, write_plan}
-use Rattle.lawful_states.specs.Lawful.{OpenHolds}
-use Rattle.lawful_states.proofs.BackLemmas.{neither}
-use Rattle.lawful_states.proofs.FindLemmas.{IsMember}
+use Rattle.joint_state.specs.Lawful.{OpenHolds}
+use Rattle.joint_state.proofs.BackLemmas.{neither}
+use Rattle.joint_state.proofs.FindLemmas.{IsMember}
 use Rattle.joint_state.specs.Sound.{IsSound}
 use Rattle.joint_state.proofs.OpenLemmas.{member-below, open-stands, opens-at}
 use Rattle.cycles_kept.proofs.BoundarySteps.{taken_back-files, taken_back-jobs}

@@ -2,7 +2,7 @@
 use Rattle.std.proofs.Common.{◌≡◌, ◌≢◌, ◌⊎◌, inl, inr, ℕ, zero, suc, ◌+◌, ◌-◌, ◌≤◌, ◌==◌, IsTrue, if◌then◌else◌, true, false, cond, List, [], ◌∷◌, slice_get, Option, Some, None, subst, refl, sym, ap, arith}
 use Rattle.std.specs.List.{AllByRecursion}
 use Rattle.std.proofs.lemmas.Bool.Decides.{nat_tests}
-use Rattle.lawful_states.proofs.NameLemmas.{some-equal}
+use Rattle.joint_state.proofs.NameLemmas.{some-equal}
 use Rattle.library_model.specs.Named.{Named, named, same_name}
 use Rattle.library_steps.specs.State.{State, JobState, memory_of, job_at, job_of, job_changed, or_new}
 use Rattle.library_steps.specs.History.{is_running}

@@ -5,7 +5,7 @@ use Rattle.entry_codec.specs.declared.entries.Entry.{Entry}
 use Rattle.entry_codec.specs.declared.entries.Draft.{Draft}
 use Rattle.journal_model.specs.Journal.{AreNumbered}
 use Rattle.journal_model.specs.Rollback.{numbered_from}
-use Rattle.lawful_states.proofs.NumberLemmas.{numbered-fewer}
+use Rattle.joint_state.proofs.NumberLemmas.{numbered-fewer}
 use Rattle.library_steps.specs.State.{State, memory_of}
 use Rattle.library_steps.specs.Change.{Change}
 use Rattle.joint_state.specs.Sound.{after}

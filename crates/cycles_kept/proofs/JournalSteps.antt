@@ -2,7 +2,7 @@
 use Rattle.std.proofs.Common.{ℕ, ◌+◌, ◌≤◌, not, is_some, length, List, refl, arith}
 use Rattle.entry_codec.specs.declared.kinds.EntryKind.TheVariants.{MemberCleared, MemberReorganized}
 use Rattle.member_slots.specs.Members.{member_of}
-use Rattle.lawful_states.proofs.NumberLemmas.{given-within}
+use Rattle.joint_state.proofs.NumberLemmas.{given-within}
 use Rattle.library_model.specs.declared.replies.Reply.TheVariants.{NoSuchName, StillNeeded}
 use Rattle.library_model.specs.declared.replies.Missing.TheVariants.{Receiver}
 use Rattle.library_model.specs.declared.requests.DeleteReceiver.{DeleteReceiver}

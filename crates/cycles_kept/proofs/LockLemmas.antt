@@ -22,7 +22,7 @@ use Rattle.lock_table.proofs.Found.{alone-from_blocker}
 use Rattle.lock_table.proofs.LawLemmas.{HoldsChange-call, HoldsChange-changed}
 use Rattle.library_steps.specs.State.{Memory, OpenState}
 use Rattle.library_steps.specs.Locking.{holder_of, record_of}
-use Rattle.lawful_states.specs.Calls.{IsOfOpen}
+use Rattle.joint_state.specs.Calls.{IsOfOpen}
 use Rattle.joint_state.specs.Locks.{LockStands}
 use Rattle.joint_state.specs.CurrentRecords.{keeps_record}
 

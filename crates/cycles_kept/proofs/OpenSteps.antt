@@ -27,7 +27,7 @@ use Rattle.library_steps.specs.Opens.{close_file, open_file, open_plan, with_ope
 use Rattle.library_steps.specs.Reads.{Found, FoundEntry, NewPosition, at_format, chain, chain_plan, chained, default_read, find_in, has_read, if_lockable, lockable, open_changed, position_change, positioned, read, read_call, read_change, read_equal, read_equal_plan, read_plan, read_prior, read_prior_equal, set_greater_than, set_lower_limit}
 use Rattle.library_steps.specs.Records.{key_asked}
 use Rattle.library_steps.specs.Refusals.{OpenedFile, found, opened_file}
-use Rattle.lawful_states.specs.Calls.{IsOfOpen}
+use Rattle.joint_state.specs.Calls.{IsOfOpen}
 use Rattle.cycles_kept.proofs.CycleLemmas.{HaveCycles, besides}
 use Rattle.cycles_kept.proofs.HoldLemmas.{Holds, does-holds, effect-holds, then-holds, wider-holds}
 use Rattle.cycles_kept.proofs.LockLemmas.{open-keeps}

@@ -9,7 +9,7 @@ use Rattle.member_slots.specs.Member.{MemberState, empty_member, appended, chang
 use Rattle.member_slots.specs.Members.{Numbered, NumberedMembers, item_at, with_item, member_at, member_of, with_member}
 use Rattle.journal_model.specs.Places.{slot_of}
 use Rattle.library_steps.specs.SlotChange.{slot_put}
-use Rattle.lawful_states.proofs.MemberLemmas.{item_at-with_item_other, member_of-with, slot_put-appended, slot_put-changed}
+use Rattle.joint_state.proofs.MemberLemmas.{item_at-with_item_other, member_of-with, slot_put-appended, slot_put-changed}
 
 -- the slot at a place, counted from 0, where the member is there and has it
 abbrev pub record_at : (member place : ℕ) → NumberedMembers → Option Slot

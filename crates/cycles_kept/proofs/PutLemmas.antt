@@ -12,7 +12,7 @@ use Rattle.member_slots.specs.declared.slot.Slot.{Slot}
 use Rattle.member_slots.specs.declared.slot.Slot.TheVariants.{Deleted}
 use Rattle.member_slots.specs.Members.{member_at, member_of}
 use Rattle.journal_model.specs.Rollback.{MemberChange, numbered_from}
-use Rattle.lawful_states.proofs.NameLemmas.{some-equal}
+use Rattle.joint_state.proofs.NameLemmas.{some-equal}
 use Rattle.library_steps.specs.State.{State, Memory, OpenState, CycleState, JobState, memory_of, job_changed, job_of, open_named}
 use Rattle.library_steps.specs.Change.{Change}
 use Rattle.library_steps.specs.Drafts.{Author}

@@ -31,8 +31,8 @@ use Rattle.library_steps.specs.SlotChange.{NewSlot, change_made, cycle_for, draf
 use Rattle.library_steps.specs.UniqueKeys.{keys_free}
 use Rattle.library_steps.specs.Uses.{changes_in}
 use Rattle.library_steps.specs.WriteRecord.{format_asked, has_room, is_input, next_place, packed, place_asked, place_plan, write_call, write_plan, write_change, write_record}
-use Rattle.lawful_states.proofs.BackLemmas.{neither}
-use Rattle.lawful_states.proofs.FindLemmas.{IsMember}
+use Rattle.joint_state.proofs.BackLemmas.{neither}
+use Rattle.joint_state.proofs.FindLemmas.{IsMember}
 use Rattle.joint_state.specs.CurrentRecords.{CurrentStands}
 use Rattle.joint_state.specs.Sound.{IsSound}
 use Rattle.joint_state.proofs.OpenLemmas.{IsAmong, OpenStands, among-format, each-among, member-there, opened-stands}

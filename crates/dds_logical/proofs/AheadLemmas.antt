@@ -1,8 +1,8 @@
 -- How many lines stand before the next record format.
 use Rattle.std.proofs.Common.{◌≡◌, ◌∙◌, ◌<◌, ◌+◌, ℕ, suc, ap, Bool, true, false, not, cond, List, ◌∷◌, length, drop, get_or, add-one, arith}
 use Rattle.std.specs.List.{prefix_len}
-use Rattle.dds_source.specs.declared.specifications.Specification.{Specification}
-use Rattle.dds_source.specs.Reading.{is_record}
+use Rattle.dds_physical.below.dds_source.specs.declared.specifications.Specification.{Specification}
+use Rattle.dds_physical.specs.Reading.{is_record}
 use Rattle.dds_logical.specs.Judged.{stands_within}
 use Rattle.dds_logical.proofs.LoopLemmas.{drop-here}
 

@@ -1,6 +1,6 @@
 -- The line that is too many is found.
 use Rattle.std.proofs.Common.{◌≡◌, ◌∙◌, ◌<◌, ℕ, suc, ap, sym, true, List, length, drop, get_or, Option, Some}
-use Rattle.dds_source.specs.declared.specifications.Specification.{Specification}
+use Rattle.dds_physical.below.dds_source.specs.declared.specifications.Specification.{Specification}
 use Rattle.dds_logical.specs.declared.format_lines.LineKind.{LineKind}
 use Rattle.dds_logical.specs.Judged.{lines_of, first_line, is_beyond}
 use Rattle.dds_logical.proofs.LineLemmas.{beyond_here}

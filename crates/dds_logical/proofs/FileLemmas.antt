@@ -1,11 +1,11 @@
 -- The formats of a file, one after another.
 use Rattle.std.proofs.Common.{◌≡◌, ℕ, refl, subst, ap, cond, Bool, true, false, None, inl, inr, List, ◌∷◌, ◌++◌, map, Option}
 use Rattle.std.proofs.lemmas.Bool.{cases_Bool}
-use Rattle.dds_source.specs.declared.specifications.Specification.{Specification}
-use Rattle.dds_source.specs.Reading.{is_record}
+use Rattle.dds_physical.below.dds_source.specs.declared.specifications.Specification.{Specification}
+use Rattle.dds_physical.specs.Reading.{is_record}
 use Rattle.dds_logical.specs.declared.views.View.{View}
-use Rattle.dds_source.specs.declared.specifications.Source.{Source}
-use Rattle.dds_source.specs.Faults.{first_after}
+use Rattle.dds_physical.below.dds_source.specs.declared.specifications.Source.{Source}
+use Rattle.dds_physical.specs.Faults.{first_after}
 use Rattle.dds_logical.specs.FormatLines.{FormatLines, formats_in, is_join_file}
 use Rattle.dds_logical.specs.Logical.{logical_of, logical_faults, logical_specification, unless_fault, described_by, faults_over}
 use Rattle.dds_physical.specs.declared.physical_files.PhysicalSpec.{PhysicalSpec}

@@ -2,9 +2,9 @@
 use Rattle.std.proofs.Common.{◌≡◌, ◌∙◌, ◌≤◌, ap, sym, refl, subst, ℕ, List, ◌++◌, drop, map, flat_map, length, Option, true, false, arith}
 use Rattle.std.specs.List.{filter_map}
 use Rattle.record_fmt.specs.declared.formats.TheConstants.{MOST_FIELDS}
-use Rattle.dds_source.specs.declared.faults.DdsFault.{DdsFault}
-use Rattle.dds_source.specs.declared.keywords.Keyword.{Keyword}
-use Rattle.dds_source.specs.Faults.{first_after}
+use Rattle.dds_physical.below.dds_source.specs.declared.faults.DdsFault.{DdsFault}
+use Rattle.dds_physical.below.dds_source.specs.declared.keywords.Keyword.{Keyword}
+use Rattle.dds_physical.specs.Faults.{first_after}
 use Rattle.dds_physical.specs.declared.physical_files.PhysicalSpec.{PhysicalSpec}
 use Rattle.dds_physical.proofs.FaultLemmas.{first_after_append}
 use Rattle.std.proofs.lemmas.List.{append_assoc}

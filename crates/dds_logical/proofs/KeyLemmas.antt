@@ -4,21 +4,21 @@ use Rattle.std.specs.List.{list_any, filter_map, cons_option}
 use Rattle.std.proofs.lemmas.Grind.{reverse_onto}
 use lib.Pointwise.{pointwise}
 use Rattle.std.proofs.lemmas.Bool.{cases_Bool}
-use Rattle.field_values.specs.FieldTypes.{width}
+use Rattle.record_fmt.specs.FieldTypes.{width}
 use Rattle.key_spec.specs.declared.KeyPart.{KeyPart}
 use Rattle.key_spec.specs.declared.KeyPart.TheVariants as parts
 use Rattle.record_fmt.specs.declared.formats.Field.{Field}
 use Rattle.record_fmt.specs.Layout.{record_length}
-use Rattle.dds_source.specs.declared.faults.DdsFault.{DdsFault}
-use Rattle.dds_source.specs.declared.keywords.Keyword.{Keyword}
-use Rattle.dds_source.specs.declared.specifications.Specification.{Specification}
+use Rattle.dds_physical.below.dds_source.specs.declared.faults.DdsFault.{DdsFault}
+use Rattle.dds_physical.below.dds_source.specs.declared.keywords.Keyword.{Keyword}
+use Rattle.dds_physical.below.dds_source.specs.declared.specifications.Specification.{Specification}
 use Rattle.dds_physical.specs.Names.{field_named, is_field, name_of}
 use Rattle.dds_physical.specs.Draft.{part_length, key_length, key_part}
 use Rattle.dds_logical.specs.declared.named_fields.NamedField.{NamedField}
 use Rattle.dds_logical.specs.declared.format_lines.LineKind.TheVariants as line_kinds
 use Rattle.dds_logical.specs.Fields.{laid_out}
-use Rattle.dds_source.specs.declared.faults.DdsCause.TheVariants.{KeyMismatch}
-use Rattle.dds_source.specs.Entries.{when}
+use Rattle.dds_physical.below.dds_source.specs.declared.faults.DdsCause.TheVariants.{KeyMismatch}
+use Rattle.dds_physical.specs.Entries.{when}
 use Rattle.dds_physical.specs.declared.physical_files.PhysicalSpec.{PhysicalSpec}
 use Rattle.dds_physical.specs.Places.{fault_at}
 use Rattle.dds_logical.specs.FormatLines.{FormatLines, key_lines}

@@ -2,7 +2,7 @@
 use Rattle.std.proofs.Common.{◌≡◌, ◌∙◌, ◌≤◌, ◌<◌, ◌+◌, ℕ, zero, suc, List, [], ◌∷◌, ◌++◌, length, take, get_or, ap, sym, refl, add-zero, arith}
 use Rattle.std.proofs.lemmas.List.{take_more}
 use Rattle.field_types.specs.declared.values.Value.{Value}
-use Rattle.field_values.specs.FieldTypes.{width}
+use Rattle.record_fmt.specs.FieldTypes.{width}
 use Rattle.record_fmt.specs.declared.formats.Field.{Field}
 use Rattle.record_fmt.specs.Layout.{record_length}
 use Rattle.dds_physical.specs.Defaults.{unspecified}

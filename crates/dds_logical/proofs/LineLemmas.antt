@@ -1,13 +1,13 @@
 -- Lines of a kind among others.
 use Rattle.std.proofs.Common.{◌<◌, ◌+◌, suc, length, get_or, add-one, sym, cond, true, false, ◌&&◌, ◌==◌, ◌-◌, ◌≡◌, ◌∙◌, ap, refl, Bool, inl, inr, List, [], ◌∷◌, ◌++◌, drop, ℕ, Option, Some, None, flat_map, if◌then◌else◌}
 use Rattle.std.proofs.lemmas.Bool.{cases_Bool, and_parts, eqb-true}
-use Rattle.dds_source.specs.declared.faults.DdsFault.{DdsFault}
-use Rattle.dds_source.specs.declared.faults.DdsCause.TheVariants.{TooLarge}
-use Rattle.dds_source.specs.declared.specifications.Specification.{Specification}
+use Rattle.dds_physical.below.dds_source.specs.declared.faults.DdsFault.{DdsFault}
+use Rattle.dds_physical.below.dds_source.specs.declared.faults.DdsCause.TheVariants.{TooLarge}
+use Rattle.dds_physical.below.dds_source.specs.declared.specifications.Specification.{Specification}
 use Rattle.dds_physical.specs.Places.{fault_at}
 use Rattle.dds_logical.specs.declared.format_lines.LineKind.{LineKind}
 use Rattle.dds_logical.specs.Fields.{too_many_faults, first_too_many}
-use Rattle.dds_source.specs.declared.keywords.Keyword.{Keyword}
+use Rattle.dds_physical.below.dds_source.specs.declared.keywords.Keyword.{Keyword}
 use Rattle.dds_logical.specs.declared.keyword_places.KeywordPlace.{KeywordPlace}
 use Rattle.dds_logical.specs.KeywordRules.{stands_at, logical_keyword_faults}
 use Rattle.dds_logical.proofs.ListLemmas.{drop_less}

@@ -1,8 +1,8 @@
 -- What loops note and keep, one step after another.
 use Rattle.std.proofs.Common.{◌≡◌, ◌∙◌, ◌<◌, ◌+◌, ℕ, zero, suc, ap, sym, refl, List, [], ◌∷◌, ◌++◌, length, take, drop, get_or, flat_map, Option, add-one, arith}
 use Rattle.std.proofs.lemmas.List.{append_assoc, append-nil}
-use Rattle.dds_source.specs.declared.faults.DdsFault.{DdsFault}
-use Rattle.dds_source.specs.Faults.{first_after}
+use Rattle.dds_physical.below.dds_source.specs.declared.faults.DdsFault.{DdsFault}
+use Rattle.dds_physical.specs.Faults.{first_after}
 use Rattle.dds_physical.proofs.FaultLemmas.{first_after_append, cons-parts}
 
 -- the first of a list was noted, and those behind it are left

@@ -3,8 +3,8 @@ use Rattle.std.proofs.Common.{◌≡◌, ◌∙◌, ap, sym, ℕ, Bool, List, �
 use Rattle.std.specs.List.{filter_map}
 use Rattle.key_spec.specs.declared.KeyPart.{KeyPart}
 use Rattle.record_fmt.specs.declared.formats.Field.{Field}
-use Rattle.dds_source.specs.declared.faults.DdsFault.{DdsFault}
-use Rattle.dds_source.specs.Faults.{first_after}
+use Rattle.dds_physical.below.dds_source.specs.declared.faults.DdsFault.{DdsFault}
+use Rattle.dds_physical.specs.Faults.{first_after}
 use Rattle.dds_physical.specs.declared.physical_files.PhysicalSpec.{PhysicalSpec}
 use Rattle.dds_physical.proofs.FaultLemmas.{first_after_append}
 use Rattle.dds_logical.specs.declared.named_fields.NamedField.{NamedField}

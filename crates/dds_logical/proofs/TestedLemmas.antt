@@ -4,22 +4,22 @@ use Rattle.std.specs.List.{list_any, before_first, prefix_len, filter_map, cons_
 use Rattle.std.specs.Option.{option_to_list}
 use Rattle.std.proofs.Common.{IfSome, All}
 use Rattle.std.proofs.lemmas.List.Elements.{All-head, All-tail}
-use Rattle.field_values.specs.FieldTypes.{IsFieldType, width}
+use Rattle.record_fmt.specs.FieldTypes.{IsFieldType, width}
 use Rattle.record_fmt.specs.Layout.{IsLaidOut, lies_from}
 use Rattle.record_fmt.proofs.LayoutLemmas.{lies-parts}
 use Rattle.dds_logical.specs.Named.{IsShown}
-use Rattle.dds_source.specs.declared.keywords.Keyword.{Keyword}
+use Rattle.dds_physical.below.dds_source.specs.declared.keywords.Keyword.{Keyword}
 use Rattle.dds_physical.specs.Names.{name_of}
 use Rattle.file_model.specs.declared.rules.Test.{Test}
 use lib.Pointwise.{pointwise}
 use Rattle.std.proofs.lemmas.Bool.{cases_Bool, ne_eqb, and_parts}
 use Rattle.field_types.specs.declared.kinds.FieldType.{FieldType}
 use Rattle.record_fmt.specs.declared.formats.Field.{Field}
-use Rattle.dds_source.specs.declared.faults.DdsFault.{DdsFault}
-use Rattle.dds_source.specs.declared.specifications.Specification.{Specification}
-use Rattle.dds_source.specs.declared.specifications.SpecificationKind.{SpecificationKind}
-use Rattle.dds_source.specs.declared.specifications.SpecificationKind.TheVariants as kinds
-use Rattle.dds_source.specs.Reading.{is_selection, is_condition}
+use Rattle.dds_physical.below.dds_source.specs.declared.faults.DdsFault.{DdsFault}
+use Rattle.dds_physical.below.dds_source.specs.declared.specifications.Specification.{Specification}
+use Rattle.dds_physical.below.dds_source.specs.declared.specifications.SpecificationKind.{SpecificationKind}
+use Rattle.dds_physical.below.dds_source.specs.declared.specifications.SpecificationKind.TheVariants as kinds
+use Rattle.dds_physical.specs.Reading.{is_selection, is_condition}
 use Rattle.dds_physical.specs.Names.{field_named}
 use Rattle.file_model.specs.declared.views.ViewField.{ViewField}
 use Rattle.dds_logical.specs.declared.named_fields.NamedField.{NamedField}

@@ -2,8 +2,8 @@
 use Rattle.std.proofs.Common.{◌≡◌, ◌∙◌, ap, refl, ℕ, inl, inr, List, [], ◌∷◌, length, nat_lt, arith}
 use Rattle.std.proofs.lemmas.Bool.Decides.{nat_tests}
 use Rattle.std.proofs.lemmas.Bool.{cases_Bool}
-use Rattle.dds_source.specs.declared.specifications.Specification.{Specification}
-use Rattle.dds_source.specs.Reading.{is_record}
+use Rattle.dds_physical.below.dds_source.specs.declared.specifications.Specification.{Specification}
+use Rattle.dds_physical.specs.Reading.{is_record}
 use Rattle.dds_logical.specs.FormatLines.{formats_in}
 use Rattle.dds_logical.specs.LineOrder.{later_of}
 use Rattle.dds_logical.specs.Logical.{most_parts}

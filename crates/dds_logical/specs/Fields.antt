@@ -5,13 +5,13 @@ use Rattle.std.specs.List.{filter_map}
 use Rattle.field_types.specs.declared.kinds.Kind.{Kind}
 use Rattle.field_types.specs.declared.kinds.Kind.TheVariants.{Char, Zoned, Packed, Binary, Date, Time, Stamp}
 use Rattle.field_types.specs.declared.kinds.FieldType.{FieldType}
-use Rattle.field_values.specs.FieldTypes.{width, is_numeric}
+use Rattle.record_fmt.specs.FieldTypes.{width, is_numeric}
 use Rattle.record_fmt.specs.declared.formats.Field.{Field}
 use Rattle.record_fmt.specs.declared.formats.TheConstants.{MOST_FIELDS}
-use Rattle.dds_source.specs.declared.faults.DdsFault.{DdsFault}
-use Rattle.dds_source.specs.declared.faults.DdsCause.TheVariants.{BadName, DuplicateName, BadType, BadArguments, UnknownReference, TooLarge, ReadOnlyMapping, Narrowing}
-use Rattle.dds_source.specs.declared.specifications.Specification.{Specification}
-use Rattle.dds_source.specs.Entries.{when}
+use Rattle.dds_physical.below.dds_source.specs.declared.faults.DdsFault.{DdsFault}
+use Rattle.dds_physical.below.dds_source.specs.declared.faults.DdsCause.TheVariants.{BadName, DuplicateName, BadType, BadArguments, UnknownReference, TooLarge, ReadOnlyMapping, Narrowing}
+use Rattle.dds_physical.below.dds_source.specs.declared.specifications.Specification.{Specification}
+use Rattle.dds_physical.specs.Entries.{when}
 use Rattle.dds_physical.specs.Places.{fault_at, at_keyword}
 use Rattle.dds_physical.specs.Names.{name_of, is_listed}
 use Rattle.dds_physical.specs.Keywords.{first_named}

@@ -2,11 +2,11 @@
 -- format level", PFILE and JFILE. That of PFILE and JFILE the first in the file decides is this project's own.)
 use Rattle.std.specs.Prelude.{Bool, true, false, ◌||◌, nat_lt, List, [], ◌∷◌, length, filter, Option, Some, None, if◌then◌else◌, codes}
 use Rattle.std.specs.List.{before_first}
-use Rattle.dds_source.specs.declared.keywords.Keyword.{Keyword}
-use Rattle.dds_source.specs.declared.specifications.Specification.{Specification}
-use Rattle.dds_source.specs.declared.specifications.SpecificationKind.{SpecificationKind}
-use Rattle.dds_source.specs.declared.specifications.SpecificationKind.TheVariants as kinds
-use Rattle.dds_source.specs.Reading.{is_record, is_condition}
+use Rattle.dds_physical.below.dds_source.specs.declared.keywords.Keyword.{Keyword}
+use Rattle.dds_physical.below.dds_source.specs.declared.specifications.Specification.{Specification}
+use Rattle.dds_physical.below.dds_source.specs.declared.specifications.SpecificationKind.{SpecificationKind}
+use Rattle.dds_physical.below.dds_source.specs.declared.specifications.SpecificationKind.TheVariants as kinds
+use Rattle.dds_physical.specs.Reading.{is_record, is_condition}
 use Rattle.dds_physical.specs.Keywords.{has_name}
 use Rattle.dds_physical.specs.WholeFile.{is_field_kind, is_key_kind}
 

@@ -4,12 +4,12 @@ use Rattle.std.specs.Prelude.{ℕ, ◌+◌, ◌-◌, Bool, true, false, not, ◌
 use Rattle.std.specs.List.{filter_map}
 use Rattle.record_fmt.specs.declared.formats.Field.{Field}
 use Rattle.record_fmt.specs.declared.formats.TheConstants.{MOST_FIELDS}
-use Rattle.dds_source.specs.declared.arguments.Argument.{Argument}
-use Rattle.dds_source.specs.declared.faults.DdsFault.{DdsFault}
-use Rattle.dds_source.specs.declared.faults.DdsCause.TheVariants.{BadArguments, JoinKeyNotPrimary}
-use Rattle.dds_source.specs.declared.keywords.Keyword.{Keyword}
-use Rattle.dds_source.specs.declared.specifications.Specification.{Specification}
-use Rattle.dds_source.specs.Entries.{when}
+use Rattle.dds_physical.below.dds_source.specs.declared.arguments.Argument.{Argument}
+use Rattle.dds_physical.below.dds_source.specs.declared.faults.DdsFault.{DdsFault}
+use Rattle.dds_physical.below.dds_source.specs.declared.faults.DdsCause.TheVariants.{BadArguments, JoinKeyNotPrimary}
+use Rattle.dds_physical.below.dds_source.specs.declared.keywords.Keyword.{Keyword}
+use Rattle.dds_physical.below.dds_source.specs.declared.specifications.Specification.{Specification}
+use Rattle.dds_physical.specs.Entries.{when}
 use Rattle.dds_physical.specs.Places.{fault_at, fault_of_keyword}
 use Rattle.dds_physical.specs.Names.{name_of}
 use Rattle.dds_physical.specs.Keywords.{first_named, arguments_of}

@@ -3,16 +3,16 @@
 use Rattle.std.specs.Prelude.{ℕ, ◌+◌, Bool, true, false, not, ◌&&◌, ◌||◌, ◌==◌, nat_lt, nat_eq, List, [], ◌∷◌, ◌++◌, length, drop, slice_get, unwrap_or, filter, flat_map, Option, Some, None, is_none, if◌then◌else◌, codes}
 use Rattle.std.specs.List.{filter_map, list_any}
 use lib.Pointwise.{pointwise}
-use Rattle.field_values.specs.FieldTypes.{is_numeric}
+use Rattle.record_fmt.specs.FieldTypes.{is_numeric}
 use Rattle.key_spec.specs.declared.KeyPart.{KeyPart}
 use Rattle.key_spec.specs.declared.KeyPart.TheVariants as parts
 use Rattle.record_fmt.specs.declared.formats.Field.{Field}
-use Rattle.dds_source.specs.declared.arguments.Argument.{Argument}
-use Rattle.dds_source.specs.declared.faults.DdsFault.{DdsFault}
-use Rattle.dds_source.specs.declared.faults.DdsCause.TheVariants.{BadArguments, NoSuchField, KeyMismatch}
-use Rattle.dds_source.specs.declared.keywords.Keyword.{Keyword}
-use Rattle.dds_source.specs.declared.specifications.Specification.{Specification}
-use Rattle.dds_source.specs.Entries.{when}
+use Rattle.dds_physical.below.dds_source.specs.declared.arguments.Argument.{Argument}
+use Rattle.dds_physical.below.dds_source.specs.declared.faults.DdsFault.{DdsFault}
+use Rattle.dds_physical.below.dds_source.specs.declared.faults.DdsCause.TheVariants.{BadArguments, NoSuchField, KeyMismatch}
+use Rattle.dds_physical.below.dds_source.specs.declared.keywords.Keyword.{Keyword}
+use Rattle.dds_physical.below.dds_source.specs.declared.specifications.Specification.{Specification}
+use Rattle.dds_physical.specs.Entries.{when}
 use Rattle.dds_physical.specs.Places.{fault_of_keyword}
 use Rattle.dds_physical.specs.Names.{field_named}
 use Rattle.dds_physical.specs.Keywords.{has_name, first_named, arguments_of}

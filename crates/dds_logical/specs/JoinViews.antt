@@ -3,8 +3,8 @@
 use Rattle.std.specs.Prelude.{ℕ, true, false, List, [], ◌∷◌, ◌++◌, drop, map, flat_map, Option, codes}
 use Rattle.key_spec.specs.declared.KeyPart.{KeyPart}
 use Rattle.record_fmt.specs.declared.formats.Field.{Field}
-use Rattle.dds_source.specs.declared.faults.DdsFault.{DdsFault}
-use Rattle.dds_source.specs.declared.keywords.Keyword.{Keyword}
+use Rattle.dds_physical.below.dds_source.specs.declared.faults.DdsFault.{DdsFault}
+use Rattle.dds_physical.below.dds_source.specs.declared.keywords.Keyword.{Keyword}
 use Rattle.dds_physical.specs.declared.physical_files.PhysicalSpec.{PhysicalSpec}
 use Rattle.dds_physical.specs.Names.{name_of}
 use Rattle.dds_physical.specs.Keywords.{first_named, is_there}

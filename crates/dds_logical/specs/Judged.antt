@@ -5,11 +5,11 @@ use Rattle.record_fmt.specs.declared.formats.Field.{Field}
 use Rattle.dds_physical.specs.Attributes.{attributes}
 use Rattle.dds_logical.specs.Fields.{narrowing_faults, field_entry_faults, made_faults, file_number_faults}
 use Rattle.std.specs.List.{before_first}
-use Rattle.dds_source.specs.declared.keywords.Keyword.{Keyword}
-use Rattle.dds_source.specs.declared.faults.DdsFault.{DdsFault}
-use Rattle.dds_source.specs.declared.specifications.Specification.{Specification}
-use Rattle.dds_source.specs.declared.specifications.SpecificationKind.{SpecificationKind}
-use Rattle.dds_source.specs.Reading.{is_record, is_condition}
+use Rattle.dds_physical.below.dds_source.specs.declared.keywords.Keyword.{Keyword}
+use Rattle.dds_physical.below.dds_source.specs.declared.faults.DdsFault.{DdsFault}
+use Rattle.dds_physical.below.dds_source.specs.declared.specifications.Specification.{Specification}
+use Rattle.dds_physical.below.dds_source.specs.declared.specifications.SpecificationKind.{SpecificationKind}
+use Rattle.dds_physical.specs.Reading.{is_record, is_condition}
 use Rattle.dds_physical.specs.declared.physical_files.PhysicalSpec.{PhysicalSpec}
 use Rattle.dds_physical.specs.WholeFile.{is_field_kind, is_key_kind}
 use Rattle.dds_logical.specs.declared.format_lines.LineKind.{LineKind}

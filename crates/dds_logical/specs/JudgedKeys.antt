@@ -3,12 +3,12 @@ use Rattle.std.specs.Prelude.{ℕ, ◌+◌, List, [], ◌∷◌, ◌++◌, drop,
 use lib.Pointwise.{pointwise}
 use Rattle.key_spec.specs.declared.KeyPart.{KeyPart}
 use Rattle.key_spec.specs.declared.KeyPart.TheVariants as parts
-use Rattle.field_values.specs.FieldTypes.{width}
-use Rattle.dds_source.specs.declared.keywords.Keyword.{Keyword}
-use Rattle.dds_source.specs.declared.specifications.Specification.{Specification}
-use Rattle.dds_source.specs.declared.faults.DdsFault.{DdsFault}
-use Rattle.dds_source.specs.declared.faults.DdsCause.TheVariants.{KeyMismatch}
-use Rattle.dds_source.specs.Entries.{when}
+use Rattle.record_fmt.specs.FieldTypes.{width}
+use Rattle.dds_physical.below.dds_source.specs.declared.keywords.Keyword.{Keyword}
+use Rattle.dds_physical.below.dds_source.specs.declared.specifications.Specification.{Specification}
+use Rattle.dds_physical.below.dds_source.specs.declared.faults.DdsFault.{DdsFault}
+use Rattle.dds_physical.below.dds_source.specs.declared.faults.DdsCause.TheVariants.{KeyMismatch}
+use Rattle.dds_physical.specs.Entries.{when}
 use Rattle.std.specs.List.{list_any, filter_map}
 use Rattle.dds_physical.specs.Places.{fault_at}
 use Rattle.record_fmt.specs.declared.formats.Field.{Field}
@@ -18,7 +18,7 @@ use Rattle.dds_physical.specs.Names.{name_of}
 use Rattle.dds_physical.specs.Keywords.{is_there}
 use Rattle.dds_logical.specs.declared.named_fields.NamedField.{NamedField}
 use Rattle.dds_logical.specs.declared.format_lines.LineKind.TheVariants as line_kinds
-use Rattle.dds_source.specs.Reading.{is_record}
+use Rattle.dds_physical.specs.Reading.{is_record}
 use Rattle.dds_logical.specs.FormatLines.{key_lines}
 use Rattle.dds_logical.specs.Judged.{is_of, lines_of, format_of}
 

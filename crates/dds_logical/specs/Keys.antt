@@ -5,12 +5,12 @@ use Rattle.std.specs.List.{list_any}
 use Rattle.key_spec.specs.declared.KeyPart.{KeyPart}
 use Rattle.key_spec.specs.declared.KeyPart.TheVariants as parts
 use Rattle.record_fmt.specs.declared.formats.Field.{Field}
-use Rattle.dds_source.specs.declared.faults.DdsFault.{DdsFault}
-use Rattle.dds_source.specs.declared.faults.DdsCause.TheVariants.{BadName, NoSuchField, KeyMismatch}
-use Rattle.dds_source.specs.declared.specifications.NameEntry.{NameEntry}
-use Rattle.dds_source.specs.declared.specifications.NameEntry.TheVariants as names
-use Rattle.dds_source.specs.declared.specifications.Specification.{Specification}
-use Rattle.dds_source.specs.Entries.{when}
+use Rattle.dds_physical.below.dds_source.specs.declared.faults.DdsFault.{DdsFault}
+use Rattle.dds_physical.below.dds_source.specs.declared.faults.DdsCause.TheVariants.{BadName, NoSuchField, KeyMismatch}
+use Rattle.dds_physical.below.dds_source.specs.declared.specifications.NameEntry.{NameEntry}
+use Rattle.dds_physical.below.dds_source.specs.declared.specifications.NameEntry.TheVariants as names
+use Rattle.dds_physical.below.dds_source.specs.declared.specifications.Specification.{Specification}
+use Rattle.dds_physical.specs.Entries.{when}
 use Rattle.dds_logical.specs.declared.limits.TheConstants.{MOST_KEY_FIELDS}
 use Rattle.dds_physical.specs.Places.{fault_at}
 use Rattle.dds_physical.specs.Names.{name_of, field_named, is_field}

@@ -3,9 +3,9 @@
 use Rattle.std.specs.Prelude.{ℕ, Bool, true, false, ◌&&◌, ◌||◌, ◌==◌, nat_le, List, [], ◌∷◌, length, Option, Some, None, is_some, is_none, if◌then◌else◌, codes, ℤ, pos, negsuc}
 use Rattle.std.specs.List.{list_all, filter_map}
 use Rattle.field_types.specs.declared.values.Dec.{Dec}
-use Rattle.dds_source.specs.declared.arguments.Argument.{Argument}
-use Rattle.dds_source.specs.declared.arguments.Argument.TheVariants as arguments
-use Rattle.dds_source.specs.declared.keywords.Keyword.{Keyword}
+use Rattle.dds_physical.below.dds_source.specs.declared.arguments.Argument.{Argument}
+use Rattle.dds_physical.below.dds_source.specs.declared.arguments.Argument.TheVariants as arguments
+use Rattle.dds_physical.below.dds_source.specs.declared.keywords.Keyword.{Keyword}
 use Rattle.dds_physical.specs.Keywords.{has_name, arguments_of, is_flag}
 use Rattle.dds_physical.specs.KeywordRules.{argument_name, is_special, is_literal, is_in_table}
 use Rattle.file_model.specs.declared.rules.Relation.{Relation}

@@ -1,10 +1,10 @@
 -- Which keywords stand where in a logical file, and what is wrong with them? (DDS for Physical and Logical Files, "Keyword
 -- entries for physical and logical files".)
 use Rattle.std.specs.Prelude.{Bool, not, ◌&&◌, ◌||◌, List, [], ◌∷◌, ◌++◌, Option, None, if◌then◌else◌, codes}
-use Rattle.dds_source.specs.declared.keywords.Keyword.{Keyword}
-use Rattle.dds_source.specs.declared.faults.DdsFault.{DdsFault}
-use Rattle.dds_source.specs.declared.faults.DdsCause.TheVariants.{UnknownKeyword, BadArguments, Conflict}
-use Rattle.dds_source.specs.Entries.{when}
+use Rattle.dds_physical.below.dds_source.specs.declared.keywords.Keyword.{Keyword}
+use Rattle.dds_physical.below.dds_source.specs.declared.faults.DdsFault.{DdsFault}
+use Rattle.dds_physical.below.dds_source.specs.declared.faults.DdsCause.TheVariants.{UnknownKeyword, BadArguments, Conflict}
+use Rattle.dds_physical.specs.Entries.{when}
 use Rattle.dds_physical.specs.Places.{fault_of_keyword, at_keyword}
 use Rattle.dds_physical.specs.Keywords.{has_name, first_named, is_heading}
 use Rattle.dds_physical.specs.WholeFile.{other_order}

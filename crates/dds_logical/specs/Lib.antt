@@ -21,3 +21,10 @@ pub mod JudgedKeys
 pub mod Tested
 pub mod Mismatches
 pub mod Complete
+pub use Rattle.file_model.specs.FilePaths
+pub use Rattle.file_model.specs.Joins
+pub use Rattle.file_model.specs.KeyOrder
+pub use Rattle.file_model.specs.Paths
+pub use Rattle.file_model.specs.Positions
+pub use Rattle.file_model.specs.Views
+pub use Rattle.record_fmt.specs.Records

@@ -1,13 +1,13 @@
 -- Which lines of a logical file stand out of order? (DDS for Physical and Logical Files, "Positional entries for physical
 -- and logical files", position 17.)
 use Rattle.std.specs.Prelude.{ℕ, Bool, not, ◌&&◌, ◌||◌, nat_lt, List, [], ◌∷◌, ◌++◌, map, flat_map, if◌then◌else◌}
-use Rattle.dds_source.specs.declared.faults.DdsFault.{DdsFault}
-use Rattle.dds_source.specs.declared.faults.DdsCause.TheVariants.{OutOfOrder}
-use Rattle.dds_source.specs.declared.specifications.Specification.{Specification}
-use Rattle.dds_source.specs.declared.specifications.SpecificationKind.{SpecificationKind}
-use Rattle.dds_source.specs.declared.specifications.SpecificationKind.TheVariants as kinds
-use Rattle.dds_source.specs.Entries.{when}
-use Rattle.dds_source.specs.Reading.{is_selection}
+use Rattle.dds_physical.below.dds_source.specs.declared.faults.DdsFault.{DdsFault}
+use Rattle.dds_physical.below.dds_source.specs.declared.faults.DdsCause.TheVariants.{OutOfOrder}
+use Rattle.dds_physical.below.dds_source.specs.declared.specifications.Specification.{Specification}
+use Rattle.dds_physical.below.dds_source.specs.declared.specifications.SpecificationKind.{SpecificationKind}
+use Rattle.dds_physical.below.dds_source.specs.declared.specifications.SpecificationKind.TheVariants as kinds
+use Rattle.dds_physical.specs.Entries.{when}
+use Rattle.dds_physical.specs.Reading.{is_selection}
 use Rattle.dds_physical.specs.Places.{fault_at}
 use Rattle.dds_physical.specs.WholeFile.{is_field_kind}
 use Rattle.dds_logical.specs.FormatLines.{FormatLines, is_join_kind, lines_ahead}

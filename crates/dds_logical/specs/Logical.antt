@@ -6,10 +6,10 @@ use Rattle.key_spec.specs.declared.KeySpec.{KeySpec}
 use Rattle.key_spec.specs.declared.Ties.{Ties}
 use Rattle.key_spec.specs.declared.Ties.TheVariants.{Rising}
 use Rattle.record_fmt.specs.declared.formats.Field.{Field}
-use Rattle.dds_source.specs.declared.faults.DdsFault.{DdsFault}
-use Rattle.dds_source.specs.declared.keywords.Keyword.{Keyword}
-use Rattle.dds_source.specs.declared.specifications.Source.{Source}
-use Rattle.dds_source.specs.Faults.{first_after}
+use Rattle.dds_physical.below.dds_source.specs.declared.faults.DdsFault.{DdsFault}
+use Rattle.dds_physical.below.dds_source.specs.declared.keywords.Keyword.{Keyword}
+use Rattle.dds_physical.below.dds_source.specs.declared.specifications.Source.{Source}
+use Rattle.dds_physical.specs.Faults.{first_after}
 use Rattle.dds_physical.specs.declared.physical_files.PhysicalSpec.{PhysicalSpec}
 use Rattle.dds_physical.specs.Names.{name_of}
 use Rattle.dds_physical.specs.Keywords.{first_named, is_there}

@@ -3,8 +3,8 @@ use Rattle.std.specs.Prelude.{ℕ, ◌≤◌, ◌+◌, ◌-◌, Bool, true, fals
 use Rattle.field_types.specs.declared.kinds.FieldType.{FieldType}
 use Rattle.record_fmt.specs.declared.formats.Field.{Field}
 use Rattle.record_fmt.specs.declared.formats.TheConstants.{MOST_BYTES}
-use Rattle.dds_source.specs.declared.arguments.Argument.{Argument}
-use Rattle.dds_source.specs.declared.keywords.Keyword.{Keyword}
+use Rattle.dds_physical.below.dds_source.specs.declared.arguments.Argument.{Argument}
+use Rattle.dds_physical.below.dds_source.specs.declared.keywords.Keyword.{Keyword}
 use Rattle.dds_physical.specs.Keywords.{is_there}
 use Rattle.file_model.specs.declared.views.FieldSource.TheVariants.{Copied, Concatenated, Substring}
 use Rattle.file_model.specs.Views.{character, pieces_length}

@@ -1,8 +1,8 @@
 -- Which fields do lines describe, of which types? (Our own.)
 use Rattle.std.specs.Prelude.{Bool, false, List, All, Option, None, if◌then◌else◌}
-use Rattle.field_values.specs.FieldTypes.{IsFieldType}
+use Rattle.record_fmt.specs.FieldTypes.{IsFieldType}
 use Rattle.record_fmt.specs.declared.formats.Field.{Field}
-use Rattle.dds_source.specs.declared.specifications.Specification.{Specification}
+use Rattle.dds_physical.below.dds_source.specs.declared.specifications.Specification.{Specification}
 use Rattle.dds_logical.specs.declared.named_fields.NamedField.{NamedField}
 use Rattle.dds_logical.specs.declared.format_lines.LineKind.TheVariants as line_kinds
 use Rattle.dds_logical.specs.Fields.{field_of_line}

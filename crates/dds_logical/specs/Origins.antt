@@ -6,12 +6,12 @@ use Rattle.field_types.specs.declared.kinds.Kind.{Kind}
 use Rattle.field_types.specs.declared.kinds.Kind.TheVariants.{Char, Zoned, Packed, Binary, Date, Time, Stamp}
 use Rattle.field_types.specs.declared.kinds.FieldType.{FieldType}
 use Rattle.record_fmt.specs.declared.formats.Field.{Field}
-use Rattle.dds_source.specs.declared.arguments.Argument.{Argument}
-use Rattle.dds_source.specs.declared.faults.DdsFault.{DdsFault}
-use Rattle.dds_source.specs.declared.faults.DdsCause.TheVariants.{BadArguments, NoBaseField}
-use Rattle.dds_source.specs.declared.keywords.Keyword.{Keyword}
-use Rattle.dds_source.specs.declared.specifications.Specification.{Specification}
-use Rattle.dds_source.specs.Entries.{when}
+use Rattle.dds_physical.below.dds_source.specs.declared.arguments.Argument.{Argument}
+use Rattle.dds_physical.below.dds_source.specs.declared.faults.DdsFault.{DdsFault}
+use Rattle.dds_physical.below.dds_source.specs.declared.faults.DdsCause.TheVariants.{BadArguments, NoBaseField}
+use Rattle.dds_physical.below.dds_source.specs.declared.keywords.Keyword.{Keyword}
+use Rattle.dds_physical.below.dds_source.specs.declared.specifications.Specification.{Specification}
+use Rattle.dds_physical.specs.Entries.{when}
 use Rattle.dds_physical.specs.Places.{fault_at, fault_of_keyword}
 use Rattle.dds_physical.specs.Names.{name_of, field_named}
 use Rattle.dds_physical.specs.Keywords.{first_named, is_there, arguments_of}

@@ -6,17 +6,17 @@ use lib.Pointwise.{pointwise}
 use Rattle.std.specs.Prelude.{nat_eq}
 use Rattle.field_types.specs.declared.kinds.FieldType.{FieldType}
 use Rattle.field_types.specs.declared.values.Value.{Value}
-use Rattle.field_values.specs.FieldTypes.{is_numeric}
+use Rattle.record_fmt.specs.FieldTypes.{is_numeric}
 use Rattle.record_fmt.specs.declared.formats.Field.{Field}
-use Rattle.dds_source.specs.declared.arguments.Argument.{Argument}
-use Rattle.dds_source.specs.declared.faults.DdsFault.{DdsFault}
-use Rattle.dds_source.specs.declared.faults.DdsCause.TheVariants.{OutOfOrder, BadArguments, NoSuchField}
-use Rattle.dds_source.specs.declared.keywords.Keyword.{Keyword}
-use Rattle.dds_source.specs.declared.specifications.Specification.{Specification}
-use Rattle.dds_source.specs.declared.specifications.SpecificationKind.{SpecificationKind}
-use Rattle.dds_source.specs.declared.specifications.SpecificationKind.TheVariants as kinds
-use Rattle.dds_source.specs.Entries.{when}
-use Rattle.dds_source.specs.Reading.{is_selection}
+use Rattle.dds_physical.below.dds_source.specs.declared.arguments.Argument.{Argument}
+use Rattle.dds_physical.below.dds_source.specs.declared.faults.DdsFault.{DdsFault}
+use Rattle.dds_physical.below.dds_source.specs.declared.faults.DdsCause.TheVariants.{OutOfOrder, BadArguments, NoSuchField}
+use Rattle.dds_physical.below.dds_source.specs.declared.keywords.Keyword.{Keyword}
+use Rattle.dds_physical.below.dds_source.specs.declared.specifications.Specification.{Specification}
+use Rattle.dds_physical.below.dds_source.specs.declared.specifications.SpecificationKind.{SpecificationKind}
+use Rattle.dds_physical.below.dds_source.specs.declared.specifications.SpecificationKind.TheVariants as kinds
+use Rattle.dds_physical.specs.Entries.{when}
+use Rattle.dds_physical.specs.Reading.{is_selection}
 use Rattle.dds_physical.specs.Places.{fault_at, fault_of_keyword}
 use Rattle.dds_physical.specs.Names.{name_of, field_named}
 use Rattle.dds_physical.specs.Keywords.{has_name, first_named, is_there, arguments_of}

@@ -6,11 +6,11 @@ use Rattle.key_spec.specs.declared.KeyPart.{KeyPart}
 use Rattle.record_fmt.specs.declared.formats.Field.{Field}
 use Rattle.record_fmt.specs.declared.formats.TheConstants.{MOST_BYTES}
 use Rattle.record_fmt.specs.Layout.{record_length}
-use Rattle.dds_source.specs.declared.faults.DdsFault.{DdsFault}
-use Rattle.dds_source.specs.declared.faults.DdsCause.TheVariants.{BadName, NoFormat, TooLarge, NoBase}
-use Rattle.dds_source.specs.declared.keywords.Keyword.{Keyword}
-use Rattle.dds_source.specs.declared.specifications.Specification.{Specification}
-use Rattle.dds_source.specs.Entries.{when}
+use Rattle.dds_physical.below.dds_source.specs.declared.faults.DdsFault.{DdsFault}
+use Rattle.dds_physical.below.dds_source.specs.declared.faults.DdsCause.TheVariants.{BadName, NoFormat, TooLarge, NoBase}
+use Rattle.dds_physical.below.dds_source.specs.declared.keywords.Keyword.{Keyword}
+use Rattle.dds_physical.below.dds_source.specs.declared.specifications.Specification.{Specification}
+use Rattle.dds_physical.specs.Entries.{when}
 use Rattle.dds_logical.specs.declared.limits.TheConstants.{MOST_KEY_BYTES}
 use Rattle.dds_physical.specs.declared.physical_files.PhysicalSpec.{PhysicalSpec}
 use Rattle.dds_physical.specs.Places.{fault_at, fault_of_keyword}

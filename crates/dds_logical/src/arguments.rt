@@ -7,8 +7,8 @@ ghost use Rattle.dds_logical.specs.KeywordArguments.{whole_of, whole_number, is_
 
 use crate::keyword_names::{arguments_of, has_name, is_compare_keyword, is_logical_flag};
 use crate::limits::MOST_JOINED;
-use dds_source::arguments::Argument;
-use dds_source::keywords::Keyword;
+use dds_physical::dds_source::arguments::Argument;
+use dds_physical::dds_source::keywords::Keyword;
 use ebc_text::to_ebcdic_byte;
 use field_types::names::Name;
 use field_types::values::Dec;

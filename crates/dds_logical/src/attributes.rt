@@ -1,13 +1,13 @@
 //! The type of a field: from the entries of its line, and from what it is made of.
 ghost use Rattle.std.specs.Prelude.{◌≡◌, ◌&&◌, ◌||◌, ◌<◌, ◌^◌, not, is_some, IfOk, Some};
-ghost use Rattle.field_values.specs.FieldTypes.{is_allowed, is_numeric, IsFieldType};
+ghost use Rattle.record_fmt.specs.FieldTypes.{is_allowed, is_numeric, IsFieldType};
 ghost use Rattle.dds_physical.specs.Attributes.{kind_by_letter, kind_of, own_length, blank_length, length_of, decimals_of, are_decimals_wrong, sized, attributes};
 ghost use Rattle.dds_logical.specs.Made.{type_of};
 
 use crate::first::fault_at;
 use crate::origins::OwnType;
-use dds_source::faults::{DdsCause, DdsFault};
-use dds_source::specifications::{Columns, LengthEntry, Specification};
+use dds_physical::dds_source::faults::{DdsCause, DdsFault};
+use dds_physical::dds_source::specifications::{Columns, LengthEntry, Specification};
 use field_types::kinds::{FieldType, Kind};
 
 /// The kind of a letter in position 35.

@@ -1,10 +1,10 @@
 //! What is wrong with the lines of the fields of a format.
 ghost use Rattle.std.specs.Prelude.{◌≡◌, ◌≤◌, ◌<◌, ◌^◌, ◌-◌, ◌++◌, ◌&&◌, ◌||◌, ◌==◌, List, [], ◌∷◌, nat_lt, not, drop, flat_map, codes, is_none, is_some, Some, Option, OnOk, if◌then◌else◌};
 ghost use Rattle.std.specs.Option.{option_copied, option_map};
-ghost use Rattle.field_values.specs.FieldTypes.{is_numeric};
+ghost use Rattle.record_fmt.specs.FieldTypes.{is_numeric};
 ghost use Rattle.record_fmt.specs.Layout.{IsLaidOut};
-ghost use Rattle.dds_source.specs.declared.specifications.Specification.{Specification};
-ghost use Rattle.dds_source.specs.Faults.{first_after};
+ghost use Rattle.dds_physical.below.dds_source.specs.declared.specifications.Specification.{Specification};
+ghost use Rattle.dds_physical.specs.Faults.{first_after};
 ghost use Rattle.dds_physical.specs.Attributes.{attributes};
 ghost use Rattle.dds_physical.specs.Lines.{is_letter_wrong};
 ghost use Rattle.dds_logical.specs.Origins.{origin};
@@ -21,8 +21,8 @@ use crate::keyword_places::KeywordPlace;
 use crate::keyword_rules::note_keywords;
 use crate::names::{EarlierNames, name_of};
 use crate::origins::{MadeOf, OwnType, is_substring, note_origin, origin, own_type};
-use dds_source::faults::DdsCause;
-use dds_source::specifications::Specification;
+use dds_physical::dds_source::faults::DdsCause;
+use dds_physical::dds_source::specifications::Specification;
 use field_types::kinds::{FieldType, Kind};
 use record_fmt::formats::{Field, MOST_FIELDS};
 use std::alloc::{AllocError, Global};

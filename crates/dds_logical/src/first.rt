@@ -1,14 +1,14 @@
 //! The first of the faults that were found, and where a fault stands.
 ghost use Rattle.std.specs.Prelude.{◌≡◌, [], ◌∷◌, None};
-ghost use Rattle.dds_source.specs.Faults.{earlier, first_after};
-ghost use Rattle.dds_source.specs.Entries.{when};
+ghost use Rattle.dds_physical.specs.Faults.{earlier, first_after};
+ghost use Rattle.dds_physical.specs.Entries.{when};
 ghost use Rattle.std.specs.Option.{option_copied};
 ghost use Rattle.dds_physical.specs.Places.{at_keyword, fault_at, fault_of_keyword};
 ghost use Rattle.dds_physical.specs.WholeFile.{fault_of_file};
 
-use dds_source::faults::{DdsCause, DdsFault};
-use dds_source::keywords::Keyword;
-use dds_source::specifications::Specification;
+use dds_physical::dds_source::faults::{DdsCause, DdsFault};
+use dds_physical::dds_source::keywords::Keyword;
+use dds_physical::dds_source::specifications::Specification;
 
 /// The first fault so far.
 #[derive(Drop)]

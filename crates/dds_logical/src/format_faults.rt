@@ -1,7 +1,7 @@
 //! What is wrong with formats over one file each.
 ghost use Rattle.std.specs.Prelude.{◌≡◌, ◌++◌, ◌∷◌, List, [], flat_map, codes, Option, IfOk, OnOk};
 ghost use Rattle.record_fmt.specs.Layout.{IsLaidOut};
-ghost use Rattle.dds_source.specs.Faults.{first_after};
+ghost use Rattle.dds_physical.specs.Faults.{first_after};
 ghost use Rattle.dds_logical.specs.Named.{AreShown};
 ghost use Rattle.dds_physical.specs.Keywords.{first_named};
 ghost use Rattle.dds_physical.specs.References.{file_of_keyword};
@@ -21,7 +21,7 @@ use crate::keyword_names::{arguments_of, first_named};
 use crate::named_fields::{NamedField, NamedFields, named_fields};
 use crate::selections::note_selections;
 use crate::whole_file::note_head;
-use dds_source::specifications::Specification;
+use dds_physical::dds_source::specifications::Specification;
 use field_types::names::Name;
 use record_fmt::formats::Field;
 use std::alloc::{AllocError, Global};

@@ -2,14 +2,14 @@
 ghost use Rattle.std.specs.Prelude.{◌≡◌, nat_lt, length};
 ghost use Rattle.std.specs.Option.{option_copied};
 ghost use Rattle.std.specs.List.{list_any, before_first, prefix_len};
-ghost use Rattle.dds_source.specs.Reading.{is_record, is_condition, is_selection};
+ghost use Rattle.dds_physical.specs.Reading.{is_record, is_condition, is_selection};
 ghost use Rattle.dds_physical.specs.WholeFile.{is_field_kind, is_key_kind};
 ghost use Rattle.dds_logical.specs.FormatLines.{formats_in, is_join_kind, based_on, is_join_keyword, is_join_file, is_multi_format};
 ghost use Rattle.dds_logical.specs.Judged.{is_of, lines_of, stands_within};
 
 use crate::keyword_names::has_name;
-use dds_source::keywords::Keyword;
-use dds_source::specifications::{Specification, SpecificationKind};
+use dds_physical::dds_source::keywords::Keyword;
+use dds_physical::dds_source::specifications::{Specification, SpecificationKind};
 
 /// A kind of lines.
 #[derive(Clone, Copy)]

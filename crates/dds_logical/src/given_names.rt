@@ -6,7 +6,7 @@ ghost use Rattle.dds_logical.specs.JoinSteps.{are_two, given_after, with_given};
 ghost use Rattle.dds_logical.specs.declared.given_names.GivenNames.TheVariants.{Nothing};
 
 use crate::arguments::argument_name;
-use dds_source::arguments::Argument;
+use dds_physical::dds_source::arguments::Argument;
 use field_types::names::Name;
 
 /// The first two of the names that are given.

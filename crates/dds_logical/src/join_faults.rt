@@ -1,6 +1,6 @@
 //! What is wrong with a join format.
 ghost use Rattle.std.specs.Prelude.{◌≡◌, ◌++◌, flat_map, codes, OnOk};
-ghost use Rattle.dds_source.specs.Faults.{first_after};
+ghost use Rattle.dds_physical.specs.Faults.{first_after};
 ghost use Rattle.dds_logical.specs.FormatLines.{formats_in};
 ghost use Rattle.dds_logical.specs.Judged.{faults_at, format_with};
 ghost use Rattle.dds_logical.specs.JoinViews.{join_faults};
@@ -16,7 +16,7 @@ use crate::joins_described::files_joined;
 use crate::keys::{judged_parts, note_key_lines, note_sizes};
 use crate::keyword_names::first_named;
 use crate::whole_file::note_head;
-use dds_source::specifications::Specification;
+use dds_physical::dds_source::specifications::Specification;
 use field_types::names::Name;
 use std::alloc::{AllocError, Global};
 

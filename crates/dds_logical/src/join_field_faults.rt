@@ -1,7 +1,7 @@
 //! What is wrong with the fields and the key of a join format.
 ghost use Rattle.std.specs.Prelude.{◌≡◌, ◌++◌, ◌&&◌, flat_map, map, nat_lt, length, codes, [], Some, None, Option, OnOk, if◌then◌else◌};
 ghost use Rattle.std.specs.Option.{option_copied};
-ghost use Rattle.dds_source.specs.Faults.{first_after};
+ghost use Rattle.dds_physical.specs.Faults.{first_after};
 ghost use Rattle.dds_physical.specs.Keywords.{first_named};
 ghost use Rattle.dds_physical.specs.Names.{name_of};
 ghost use Rattle.dds_logical.specs.declared.format_lines.LineKind.TheVariants as line_kinds;
@@ -19,9 +19,9 @@ use crate::join_lines::fields_of_place;
 use crate::keyword_names::first_named;
 use crate::named_fields::NamedField;
 use crate::names::name_of;
-use dds_source::faults::DdsCause;
-use dds_source::keywords::Keyword;
-use dds_source::specifications::Specification;
+use dds_physical::dds_source::faults::DdsCause;
+use dds_physical::dds_source::keywords::Keyword;
+use dds_physical::dds_source::specifications::Specification;
 use field_types::names::Name;
 use record_fmt::formats::MOST_FIELDS;
 use std::alloc::{AllocError, Global};

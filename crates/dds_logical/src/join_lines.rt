@@ -3,7 +3,7 @@ ghost use Rattle.std.specs.Prelude.{◌≡◌, ◌++◌, ◌&&◌, ◌||◌, ◌
 ghost use Rattle.std.specs.Option.{option_copied};
 ghost use Rattle.std.specs.List.{list_any};
 ghost use Rattle.record_fmt.specs.Layout.{IsLaidOut};
-ghost use Rattle.dds_source.specs.Faults.{first_after};
+ghost use Rattle.dds_physical.specs.Faults.{first_after};
 ghost use Rattle.dds_physical.specs.Keywords.{first_named};
 ghost use Rattle.dds_physical.specs.References.{file_of_keyword};
 ghost use Rattle.dds_logical.specs.declared.format_lines.LineKind.TheVariants as line_kinds;
@@ -23,9 +23,9 @@ use crate::keyword_names::{arguments_of, first_named, has_name};
 use crate::keyword_places::KeywordPlace;
 use crate::keyword_rules::note_keywords;
 use crate::names::field_named;
-use dds_source::faults::DdsCause;
-use dds_source::keywords::Keyword;
-use dds_source::specifications::Specification;
+use dds_physical::dds_source::faults::DdsCause;
+use dds_physical::dds_source::keywords::Keyword;
+use dds_physical::dds_source::specifications::Specification;
 use field_types::names::Name;
 use record_fmt::formats::Field;
 

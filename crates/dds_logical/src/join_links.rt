@@ -10,9 +10,9 @@ ghost use Rattle.dds_logical.specs.JoinSteps.{link_of_given, reaches};
 use crate::format_lines::{LineKind, is_of};
 use crate::given_names::{GivenNames, given_names};
 use crate::keyword_names::{arguments_of, first_named};
-use dds_source::arguments::Argument;
-use dds_source::keywords::Keyword;
-use dds_source::specifications::Specification;
+use dds_physical::dds_source::arguments::Argument;
+use dds_physical::dds_source::keywords::Keyword;
+use dds_physical::dds_source::specifications::Specification;
 use field_types::names::Name;
 
 /// The places of the two files that a J line joins, in JFILE and counted from 0.

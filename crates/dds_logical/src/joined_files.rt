@@ -14,7 +14,7 @@ use crate::join_pairs::{pairs_said, sequence_said};
 use crate::join_views::JoinedFile;
 use crate::keyword_names::first_named;
 use crate::limits::MOST_JOINED;
-use dds_source::specifications::Specification;
+use dds_physical::dds_source::specifications::Specification;
 use field_types::lists::ListOf;
 use field_types::names::Name;
 use record_fmt::formats::Field;

@@ -1,8 +1,8 @@
 //! Positions of keys that differ between the formats of a file.
 ghost use Rattle.std.specs.Prelude.{◌≡◌, ◌<◌, ◌≤◌, List, reverse, ◌+◌, ◌&&◌, ◌||◌, ◌∷◌, [], not, drop, length, if◌then◌else◌, OnOk};
 ghost use Rattle.std.specs.List.{list_any};
-ghost use Rattle.dds_source.specs.declared.specifications.Specification.{Specification};
-ghost use Rattle.dds_source.specs.Faults.{first_after};
+ghost use Rattle.dds_physical.below.dds_source.specs.declared.specifications.Specification.{Specification};
+ghost use Rattle.dds_physical.specs.Faults.{first_after};
 ghost use Rattle.dds_logical.specs.Keys.{is_same_flag, parts_differ, first_part};
 ghost use Rattle.dds_logical.specs.JudgedKeys.{positions_of};
 
@@ -12,8 +12,8 @@ use crate::format_lines::{LineKind, is_of};
 use crate::keys::{judged_part, named_or_none};
 use crate::named_fields::NamedField;
 use crate::names::name_of;
-use dds_source::faults::DdsCause;
-use dds_source::specifications::Specification;
+use dds_physical::dds_source::faults::DdsCause;
+use dds_physical::dds_source::specifications::Specification;
 use key_spec::{KeyPart, KeyParts};
 use std::alloc::{AllocError, Global};
 use std::marker::Model;

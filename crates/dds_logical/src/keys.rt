@@ -3,8 +3,8 @@ ghost use Rattle.std.specs.Prelude.{◌≡◌, ◌≤◌, ◌+◌, ◌++◌, ◌
 ghost use Rattle.std.specs.Option.{option_copied, option_to_list};
 ghost use Rattle.std.specs.List.{list_any, filter_map};
 ghost use Rattle.record_fmt.specs.Layout.{record_length};
-ghost use Rattle.dds_source.specs.declared.specifications.Specification.{Specification};
-ghost use Rattle.dds_source.specs.Faults.{first_after};
+ghost use Rattle.dds_physical.below.dds_source.specs.declared.specifications.Specification.{Specification};
+ghost use Rattle.dds_physical.specs.Faults.{first_after};
 ghost use Rattle.dds_physical.specs.Draft.{part_length, key_length};
 ghost use Rattle.dds_logical.specs.declared.format_lines.LineKind.TheVariants as line_kinds;
 ghost use Rattle.dds_logical.specs.Fields.{laid_out};
@@ -22,13 +22,13 @@ use crate::keyword_rules::note_keywords;
 use crate::limits::{MOST_KEY_BYTES, MOST_KEY_FIELDS};
 use crate::named_fields::NamedField;
 use crate::names::{is_blank, name_of};
-use dds_source::faults::DdsCause;
-use dds_source::keywords::Keyword;
-use dds_source::specifications::{NameEntry, Specification};
+use dds_physical::dds_source::faults::DdsCause;
+use dds_physical::dds_source::keywords::Keyword;
+use dds_physical::dds_source::specifications::{NameEntry, Specification};
 use field_types::lists::ListOf;
 use field_types::names::Name;
-use field_values::fields;
 use key_spec::{KeyPart, KeyParts};
+use record_fmt::field_values::fields;
 use record_fmt::formats::MOST_BYTES;
 use std::alloc::{AllocError, Global};
 

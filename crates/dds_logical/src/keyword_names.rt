@@ -7,8 +7,8 @@ ghost use Rattle.dds_logical.specs.KeywordArguments.{is_compare_keyword, is_logi
 ghost use Rattle.dds_logical.specs.KeywordRules.{is_file_keyword, is_files_keyword, is_origin_keyword, is_logical_field_keyword, is_selection_keyword, stands_at};
 
 use crate::keyword_places::KeywordPlace;
-use dds_source::arguments::Argument;
-use dds_source::keywords::Keyword;
+use dds_physical::dds_source::arguments::Argument;
+use dds_physical::dds_source::keywords::Keyword;
 
 /// Whether the keyword has this name.
 pub(crate) fn has_name(name: &[u8], keyword: &Keyword) -> bool

@@ -1,7 +1,7 @@
 //! What is wrong with the keywords of a place, and of the file.
 ghost use Rattle.std.specs.Prelude.{◌≡◌, ◌++◌, ◌&&◌, not, codes, Option};
 ghost use Rattle.std.specs.Option.{option_copied};
-ghost use Rattle.dds_source.specs.Faults.{first_after};
+ghost use Rattle.dds_physical.specs.Faults.{first_after};
 ghost use Rattle.dds_physical.specs.WholeFile.{other_order};
 ghost use Rattle.dds_logical.specs.KeywordRules.{stands_at, stands_again, unknown_faults, argument_faults, twice_faults, logical_keyword_faults, refused_unique, file_conflicts};
 ghost use Rattle.dds_logical.specs.Judged.{one_keyword_faults};
@@ -10,8 +10,8 @@ use crate::arguments::takes_its_arguments;
 use crate::first::{FirstFault, keyword_fault};
 use crate::keyword_names::{first_named, has_name, stands_at};
 use crate::keyword_places::KeywordPlace;
-use dds_source::faults::DdsCause;
-use dds_source::keywords::Keyword;
+use dds_physical::dds_source::faults::DdsCause;
+use dds_physical::dds_source::keywords::Keyword;
 
 /// Notes what is wrong with the keywords of a place.
 pub(crate) fn note_keywords(

@@ -44,6 +44,9 @@ pub mod views;
 mod whole_file;
 
 pub use bases::Bases;
+pub use dds_physical;
+pub use file_model;
 pub use join_views::{JoinView, JoinedField, JoinedFile};
 pub use logical_files::{LogicalFault, logical};
+pub use record_fmt;
 pub use views::{LogicalSpec, View, Views};

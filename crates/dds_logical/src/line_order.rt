@@ -1,14 +1,14 @@
 //! Lines out of order.
 ghost use Rattle.std.specs.Prelude.{◌≡◌, ◌≤◌, ◌++◌, ◌&&◌, ◌||◌, false, not, map, flat_map, if◌then◌else◌};
-ghost use Rattle.dds_source.specs.Faults.{first_after};
+ghost use Rattle.dds_physical.specs.Faults.{first_after};
 ghost use Rattle.dds_logical.specs.FormatLines.{lines_ahead, formats_in};
 ghost use Rattle.dds_logical.specs.LineOrder.{out_of_order, stage, later_of, stage_faults, kind_faults, second_format_faults, order_faults};
 ghost use Rattle.dds_logical.specs.Judged.{order_faults_of, faults_at, second_formats};
 
 use crate::first::{FirstFault, fault_at};
 use crate::format_lines::{is_field_kind, is_join_kind, is_record, is_selection, lines_ahead};
-use dds_source::faults::{DdsCause, DdsFault};
-use dds_source::specifications::{Specification, SpecificationKind};
+use dds_physical::dds_source::faults::{DdsCause, DdsFault};
+use dds_physical::dds_source::specifications::{Specification, SpecificationKind};
 
 fn out_of_order(line: &Specification) -> DdsFault
     ensures { result ≡ out_of_order line.now }

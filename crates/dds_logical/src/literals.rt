@@ -1,17 +1,17 @@
 //! The values of literals, and what a field holds where none is given.
 ghost use Rattle.std.specs.Prelude.{◌≡◌, Option, is_some, codes, IfOk};
 ghost use Rattle.std.specs.List.{filter_map, list_any};
-ghost use Rattle.field_values.specs.FieldTypes.{IsFieldType};
-ghost use Rattle.field_values.specs.FieldBytes.{fault_of};
+ghost use Rattle.record_fmt.specs.FieldTypes.{IsFieldType};
+ghost use Rattle.record_fmt.specs.FieldBytes.{fault_of};
 ghost use Rattle.ebc_text.specs.CodePage.{ebcdic_of};
 ghost use Rattle.dds_physical.specs.Defaults.{in_code_page, literal_value, unspecified, is_refused};
 
-use dds_source::arguments::Argument;
+use dds_physical::dds_source::arguments::Argument;
 use ebc_text::to_ebcdic_byte;
 use field_types::kinds::{FieldType, Kind};
 use field_types::texts::Text;
 use field_types::values::{Dec, Value};
-use field_values::fields;
+use record_fmt::field_values::fields;
 use std::alloc::{AllocError, Global};
 
 /// Characters of a source in code page 037; one that it lacks is left out.

@@ -13,9 +13,9 @@ use crate::format_views::{most_parts, view_described};
 use crate::joins_described::join_described;
 use crate::source_faults::first_fault;
 use crate::views::{LogicalSpec, View, Views};
-use dds_source::faults::DdsFault;
-use dds_source::keywords::Keyword;
-use dds_source::specifications::{Source, Specification};
+use dds_physical::dds_source::faults::DdsFault;
+use dds_physical::dds_source::keywords::Keyword;
+use dds_physical::dds_source::specifications::{Source, Specification};
 use std::alloc::{AllocError, Global};
 
 /// Why a source describes no logical file.

@@ -2,7 +2,7 @@
 ghost use Rattle.std.specs.Prelude.{◌≡◌, ◌≤◌, List, [], ◌∷◌, ◌++◌, length, map, true, Some, None, All, IfOk, IfSome, OnOk};
 ghost use Rattle.std.specs.Option.{option_map, option_to_list};
 ghost use Rattle.std.specs.List.{filter_map};
-ghost use Rattle.field_values.specs.FieldTypes.{IsFieldType};
+ghost use Rattle.record_fmt.specs.FieldTypes.{IsFieldType};
 ghost use Rattle.record_fmt.specs.Layout.{IsLaidOut};
 ghost use Rattle.dds_logical.specs.declared.format_lines.LineKind.TheVariants as line_kinds;
 ghost use Rattle.dds_logical.specs.Fields.{source_at, view_field, field_over, field_of_line, field_as_it_is, named_fields};
@@ -18,7 +18,7 @@ use crate::format_lines::{LineKind, has_lines, is_of};
 use crate::names::name_of;
 use crate::origins::{MadeOf, origin, own_type};
 use crate::texts::text_of;
-use dds_source::specifications::Specification;
+use dds_physical::dds_source::specifications::Specification;
 use field_types::kinds::FieldType;
 use field_types::names::Name;
 use field_types::texts::Text;

@@ -5,7 +5,7 @@ ghost use Rattle.dds_physical.specs.Names.{name_of, field_named, is_listed, is_a
 ghost use Rattle.dds_physical.specs.Lines.{is_blank};
 ghost use Rattle.dds_logical.specs.Fields.{with_name};
 
-use dds_source::specifications::NameEntry;
+use dds_physical::dds_source::specifications::NameEntry;
 use field_types::names::Name;
 use record_fmt::formats::Field;
 use std::alloc::{AllocError, Global};

@@ -3,7 +3,7 @@ ghost use Rattle.std.specs.Prelude.{◌≡◌, ◌+◌, ◌-◌, ◌&&◌, nat_l
 ghost use Rattle.dds_logical.specs.Origins.{part_to_end, part_of_size, part_said, lies_within, if_within};
 
 use crate::arguments::whole_number;
-use dds_source::arguments::Argument;
+use dds_physical::dds_source::arguments::Argument;
 
 /// Where a part of a field begins, counted from 1, and how long it is.
 #[derive(Clone, Copy)]

@@ -1,6 +1,6 @@
 //! What is wrong with a source.
 ghost use Rattle.std.specs.Prelude.{◌≡◌, ◌++◌, false, if◌then◌else◌, OnOk, None, IfOk};
-ghost use Rattle.dds_source.specs.Faults.{first_after};
+ghost use Rattle.dds_physical.specs.Faults.{first_after};
 ghost use Rattle.dds_logical.specs.FormatLines.{formats_in};
 ghost use Rattle.dds_logical.specs.Logical.{faults_over, formats_at_fault, logical_faults};
 ghost use Rattle.dds_physical.specs.WholeFile.{has_key};
@@ -16,9 +16,9 @@ use crate::keyword_places::KeywordPlace;
 use crate::keyword_rules::{note_conflicts, note_keywords};
 use crate::line_order::note_order;
 use crate::whole_file::{note_format_missing, note_formats};
-use dds_source::faults::DdsFault;
-use dds_source::keywords::Keyword;
-use dds_source::specifications::{Source, Specification};
+use dds_physical::dds_source::faults::DdsFault;
+use dds_physical::dds_source::keywords::Keyword;
+use dds_physical::dds_source::specifications::{Source, Specification};
 use std::alloc::{AllocError, Global};
 
 /// Notes what is wrong with formats over one file each.

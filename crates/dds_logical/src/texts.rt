@@ -4,8 +4,8 @@ ghost use Rattle.dds_physical.specs.Defaults.{with_piece, with_pieces, text_of, 
 
 use crate::keyword_names::{arguments_of, is_heading};
 use crate::literals::literal_value;
-use dds_source::arguments::Argument;
-use dds_source::keywords::Keyword;
+use dds_physical::dds_source::arguments::Argument;
+use dds_physical::dds_source::keywords::Keyword;
 use field_types::texts::Text;
 use field_types::values::Value;
 use std::alloc::{AllocError, Global};

@@ -2,7 +2,7 @@
 ghost use Rattle.std.specs.Prelude.{◌≡◌, ◌++◌, ◌&&◌, ◌||◌, ◌==◌, false, not, length, is_none, is_some, Option, OnOk, codes, if◌then◌else◌};
 ghost use Rattle.std.specs.Option.{option_copied};
 ghost use Rattle.std.specs.List.{list_any};
-ghost use Rattle.dds_source.specs.Faults.{first_after};
+ghost use Rattle.dds_physical.specs.Faults.{first_after};
 ghost use Rattle.dds_physical.specs.Keywords.{first_named};
 ghost use Rattle.dds_logical.specs.KeywordArguments.{names_among};
 ghost use Rattle.dds_logical.specs.FormatLines.{formats_in, field_lines, based_on};
@@ -20,10 +20,10 @@ use crate::keyword_places::KeywordPlace;
 use crate::keyword_rules::note_keywords;
 use crate::limits::MOST_FORMATS;
 use crate::names::name_of;
-use dds_source::arguments::Argument;
-use dds_source::faults::DdsCause;
-use dds_source::keywords::Keyword;
-use dds_source::specifications::Specification;
+use dds_physical::dds_source::arguments::Argument;
+use dds_physical::dds_source::faults::DdsCause;
+use dds_physical::dds_source::keywords::Keyword;
+use dds_physical::dds_source::specifications::Specification;
 use field_types::names::Name;
 use std::alloc::{AllocError, Global};
 

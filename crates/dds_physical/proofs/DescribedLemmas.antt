@@ -5,7 +5,7 @@ use Rattle.std.proofs.lemmas.Bool.{and_parts, and_from, eq-eqb}
 use Rattle.field_types.specs.declared.kinds.Kind.{Kind}
 use Rattle.field_types.specs.declared.kinds.Kind.TheVariants.{Char, Zoned, Packed, Binary, Date, Time, Stamp}
 use Rattle.field_types.specs.declared.kinds.FieldType.{FieldType}
-use Rattle.field_values.specs.FieldTypes.{IsFieldType, is_allowed, width, width_of}
+use Rattle.record_fmt.specs.FieldTypes.{IsFieldType, is_allowed, width, width_of}
 use Rattle.record_fmt.specs.declared.formats.Field.{Field}
 use Rattle.record_fmt.specs.Layout.{record_length, lies_from}
 use Rattle.record_fmt.proofs.LayoutLemmas.{lies-parts}

@@ -5,7 +5,7 @@ use Rattle.std.specs.Bool.{if◌then◌else◌}
 use Rattle.std.proofs.lemmas.Bool.{cases_Bool}
 use Rattle.field_types.specs.declared.kinds.Kind.{Kind}
 use Rattle.field_types.specs.declared.kinds.FieldType.{FieldType}
-use Rattle.field_values.specs.FieldTypes.{is_allowed}
+use Rattle.record_fmt.specs.FieldTypes.{is_allowed}
 use Rattle.record_fmt.specs.declared.formats.Format.{Format}
 use Rattle.record_fmt.specs.declared.formats.Field.{Field}
 use Rattle.record_fmt.specs.Layout.{record_length}

@@ -8,7 +8,7 @@ use Rattle.field_types.specs.declared.kinds.Kind.TheVariants.{Char, Zoned, Packe
 use Rattle.field_types.specs.declared.kinds.FieldType.{FieldType}
 use Rattle.field_types.specs.declared.values.Value.{Value}
 use Rattle.field_types.specs.declared.values.Value.TheVariants as values
-use Rattle.field_values.specs.FieldBytes.{fault_of}
+use Rattle.record_fmt.specs.FieldBytes.{fault_of}
 use Rattle.dds_source.specs.declared.arguments.Argument.{Argument}
 use Rattle.dds_source.specs.declared.arguments.Argument.TheVariants as arguments
 use Rattle.dds_source.specs.declared.keywords.Keyword.{Keyword}

@@ -1,7 +1,7 @@
 -- What lines describe: the record format's name, its fields, and the key.
 -- (DDS for Physical and Logical Files, "Record format level", "Field level" and "Key field level".)
 use Rattle.std.specs.Prelude.{ℕ, ◌+◌, List, [], ◌∷◌, Option, Some, None, codes}
-use Rattle.field_values.specs.FieldTypes.{width}
+use Rattle.record_fmt.specs.FieldTypes.{width}
 use Rattle.key_spec.specs.declared.KeyPart.{KeyPart}
 use Rattle.key_spec.specs.declared.KeyPart.TheVariants as parts
 use Rattle.record_fmt.specs.declared.formats.Field.{Field}

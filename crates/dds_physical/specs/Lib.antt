@@ -12,3 +12,6 @@ pub mod WholeFile
 pub mod Physical
 pub mod Laws
 pub mod Order
+pub use Rattle.dds_source.specs.Entries
+pub use Rattle.dds_source.specs.Faults
+pub use Rattle.dds_source.specs.Reading

@@ -1,6 +1,6 @@
 //! The type of a field: from the entries of its line, and from the field that it refers to.
 ghost use Rattle.std.specs.Prelude.{◌≡◌, ◌&&◌, ◌||◌, ◌≤◌, not, is_some, IfOk};
-ghost use Rattle.field_values.specs.FieldTypes.{is_allowed, is_numeric, is_moment_kind, IsFieldType};
+ghost use Rattle.record_fmt.specs.FieldTypes.{is_allowed, is_numeric, is_moment_kind, IsFieldType};
 ghost use Rattle.dds_physical.specs.Places.{fault_at};
 ghost use Rattle.dds_physical.specs.Attributes.{kind_by_letter, kind_of, own_length, copied_length, blank_length, length_of, copied_decimals, decimals_of, are_decimals_wrong, sized, attributes};
 

@@ -1,8 +1,8 @@
 //! Default values, and the literals of DFT.
 ghost use Rattle.std.specs.Prelude.{◌≡◌, Option, is_some, codes, IfOk, OnOk};
 ghost use Rattle.std.specs.List.{filter_map};
-ghost use Rattle.field_values.specs.FieldTypes.{IsFieldType};
-ghost use Rattle.field_values.specs.FieldBytes.{fault_of};
+ghost use Rattle.record_fmt.specs.FieldTypes.{IsFieldType};
+ghost use Rattle.record_fmt.specs.FieldBytes.{fault_of};
 ghost use Rattle.ebc_text.specs.CodePage.{ebcdic_of};
 ghost use Rattle.dds_source.specs.Faults.{first_after};
 ghost use Rattle.dds_physical.specs.Keywords.{first_named};
@@ -17,7 +17,7 @@ use ebc_text::to_ebcdic_byte;
 use field_types::kinds::{FieldType, Kind};
 use field_types::texts::Text;
 use field_types::values::{Dec, Value};
-use field_values::fields;
+use record_fmt::field_values::fields;
 use std::alloc::{AllocError, Global};
 
 /// Characters of a source in code page 037; one that it lacks is left out.

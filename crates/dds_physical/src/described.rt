@@ -1,6 +1,6 @@
 //! The fields that lines have described so far: any number of bytes, of which a record then has at most 32,766.
 ghost use Rattle.std.specs.Prelude.{◌≡◌, ◌<◌, ◌≤◌, [], ◌∷◌, ◌++◌, length, OnOk, IfOk};
-ghost use Rattle.field_values.specs.FieldTypes.{IsFieldType};
+ghost use Rattle.record_fmt.specs.FieldTypes.{IsFieldType};
 ghost use Rattle.record_fmt.specs.Layout.{record_length};
 ghost use Rattle.dds_physical.specs.Described.{IsDescribed};
 
@@ -8,7 +8,7 @@ use field_types::kinds::FieldType;
 use field_types::names::Name;
 use field_types::texts::Text;
 use field_types::values::Value;
-use field_values::fields;
+use record_fmt::field_values::fields;
 use record_fmt::formats::{Field, Fields, MOST_BYTES, MOST_FIELDS};
 use std::alloc::{AllocError, Global};
 use std::marker::Model;

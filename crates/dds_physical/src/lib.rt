@@ -19,6 +19,7 @@ mod references;
 pub mod refs;
 mod texts;
 
+pub use dds_source;
 pub use dependents::refers_to;
 pub use physical_files::{PhysicalError, PhysicalSpec, physical};
 pub use refs::Refs;

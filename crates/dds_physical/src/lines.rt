@@ -1,6 +1,6 @@
 //! The lines of a source: each is judged by what stands before it, up to the first that is at fault.
 ghost use Rattle.std.specs.Prelude.{◌≡◌, ◌<◌, ◌++◌, ◌∷◌, [], ◌||◌, ◌==◌, nat_lt, not, length, None, is_some, is_none, IfOk, OnOk, if◌then◌else◌};
-ghost use Rattle.field_values.specs.FieldTypes.{IsFieldType};
+ghost use Rattle.record_fmt.specs.FieldTypes.{IsFieldType};
 ghost use Rattle.dds_source.specs.Faults.{first_after};
 ghost use Rattle.dds_source.specs.Entries.{when};
 ghost use Rattle.dds_physical.specs.Names.{name_of};

@@ -1,6 +1,6 @@
 //! References to other fields: REF, REFFLD, and `R` in position 29.
 ghost use Rattle.std.specs.Prelude.{◌≡◌, Option, Some, None, codes, IfOk};
-ghost use Rattle.field_values.specs.FieldTypes.{IsFieldType};
+ghost use Rattle.record_fmt.specs.FieldTypes.{IsFieldType};
 ghost use Rattle.std.specs.Option.{option_copied};
 ghost use Rattle.dds_source.specs.Faults.{first_after};
 ghost use Rattle.dds_physical.specs.Places.{error_list};

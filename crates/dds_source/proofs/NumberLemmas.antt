@@ -7,7 +7,7 @@ use Rattle.text_lines.specs.Decimal.{is_digit}
 use Rattle.dds_source.specs.Numbers.{decimal, decimal_after}
 use Rattle.std.proofs.Common.{◌==◌, Some}
 use Rattle.std.specs.List.{before_first, after_first}
-use Rattle.field_types.specs.declared.values.Dec.{Dec}
+use Rattle.text_lines.below.field_types.specs.declared.values.Dec.{Dec}
 use Rattle.dds_source.specs.ArgumentTexts.{is_unsigned, number_of, signed}
 
 -- fewer digits make smaller numbers

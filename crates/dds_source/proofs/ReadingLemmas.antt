@@ -5,7 +5,7 @@ use Rattle.std.specs.Bool.{if◌then◌else◌}
 use Rattle.std.proofs.lemmas.Bool.{cases_Bool}
 use Rattle.std.proofs.Math.Bool.{or-false, or_assoc}
 use Rattle.std.proofs.lemmas.List.{drop_more, append_assoc}
-use Rattle.field_types.specs.SystemName.{begins_name, continues_name, is_name}
+use Rattle.text_lines.specs.SystemName.{begins_name, continues_name, is_name}
 use Rattle.dds_source.specs.declared.lines.Line.{Line}
 use Rattle.dds_source.specs.declared.characters.SourceCharacter.{SourceCharacter}
 use Rattle.dds_source.specs.declared.faults.DdsFault.{DdsFault}

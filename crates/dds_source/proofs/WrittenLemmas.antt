@@ -5,7 +5,7 @@ use Rattle.std.specs.Option.{is_none, option_map}
 use Rattle.std.proofs.lemmas.Bool.{cases_Bool}
 use Rattle.std.proofs.Math.Bool.{and-false}
 use Rattle.std.proofs.lemmas.List.{drop_at}
-use Rattle.field_types.specs.SystemName.{is_name, begins_name, continues_name}
+use Rattle.text_lines.specs.SystemName.{is_name, begins_name, continues_name}
 use Rattle.dds_source.specs.declared.specifications.NameEntry.TheVariants as names
 use Rattle.dds_source.specs.declared.specifications.LengthEntry.TheVariants.{Exactly}
 use Rattle.text_lines.specs.Lines.{is_blank, are_blanks}

@@ -3,9 +3,9 @@
 use Rattle.std.specs.Prelude.{ℕ, ◌+◌, ◌-◌, Bool, true, false, not, ◌&&◌, ◌||◌, ◌==◌, nat_le, List, [], ◌∷◌, ◌++◌, length, take, slice_index, slice_range, Option, Some, None, is_some, option_and_then, if◌then◌else◌, pos, neg_ℤ, ℤ}
 use Rattle.std.specs.List.{before_first, after_first, list_any, list_all}
 use Rattle.std.specs.Option.{option_map, option_map_or}
-use Rattle.field_types.specs.SystemName.{is_name}
+use Rattle.text_lines.specs.SystemName.{is_name}
 use Rattle.text_lines.specs.Characters.{hex_digit_value, hex_byte}
-use Rattle.field_types.specs.declared.values.Dec.{Dec}
+use Rattle.text_lines.below.field_types.specs.declared.values.Dec.{Dec}
 use Rattle.dds_source.specs.declared.arguments.Argument.{Argument}
 use Rattle.dds_source.specs.declared.arguments.Argument.TheVariants as arguments
 use Rattle.text_lines.specs.Lines.{is_blank}

@@ -3,7 +3,7 @@
 use Rattle.std.specs.Prelude.{ℕ, ◌+◌, Bool, not, ◌&&◌, ◌||◌, ◌==◌, nat_le, nat_eq, List, [], ◌∷◌, ◌++◌, length, drop, Option, Some, None, is_none, if◌then◌else◌, codes}
 use Rattle.std.specs.List.{before_first}
 use lib.Pointwise.{pointwise}
-use Rattle.field_types.specs.SystemName.{is_name}
+use Rattle.text_lines.specs.SystemName.{is_name}
 use Rattle.dds_source.specs.declared.lines.Line.{Line}
 use Rattle.dds_source.specs.declared.faults.DdsFault.{DdsFault}
 use Rattle.dds_source.specs.declared.faults.DdsCause.TheVariants.{BadColumn, BadName, BadNumber}

@@ -2,7 +2,7 @@
 -- (DDS for Physical and Logical Files, "Positions 1 through 44".)
 use Rattle.std.specs.Prelude.{◌≡◌, ℕ, ◌-◌, ◌≤◌, Bool, true, ◌||◌, ◌==◌, List, [], ◌∷◌, ◌++◌, length, replicate, flat_map, Option, Some, None, if◌then◌else◌}
 use Rattle.std.specs.List.{list_all}
-use Rattle.field_types.specs.SystemName.{is_name}
+use Rattle.text_lines.specs.SystemName.{is_name}
 use Rattle.dds_source.specs.declared.specifications.Specification.{Specification}
 use Rattle.dds_source.specs.declared.specifications.Columns.{Columns}
 use Rattle.dds_source.specs.declared.specifications.SpecificationKind.{SpecificationKind}

@@ -8,10 +8,10 @@ use crate::arguments::{Argument, Arguments, Characters};
 use crate::continuation::toggled;
 use crate::keyword_texts::{after_parenthesis, is_unfinished};
 use crate::number_literals::number;
-use field_types::names::Name;
-use field_types::texts::Text;
 use std::alloc::{AllocError, Global};
 use text_lines::characters::hex_byte;
+use text_lines::field_types::names::Name;
+use text_lines::field_types::texts::Text;
 use text_lines::lines::is_blank;
 
 /// What stands between the outermost parentheses.

@@ -1,10 +1,10 @@
 //! What stands in the parentheses of a keyword.
 
-use field_types::byte_lists::ByteList;
-use field_types::lists::ListOf;
-use field_types::names::Name;
-use field_types::texts::Text;
-use field_types::values::Dec;
+use text_lines::field_types::byte_lists::ByteList;
+use text_lines::field_types::lists::ListOf;
+use text_lines::field_types::names::Name;
+use text_lines::field_types::texts::Text;
+use text_lines::field_types::values::Dec;
 
 /// The use of [`Characters`].
 #[derive(Clone, Copy)]

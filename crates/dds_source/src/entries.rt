@@ -11,7 +11,7 @@ use crate::first::FirstFault;
 use crate::lines::Line;
 use crate::numbers::{signed_entry, unsigned_entry};
 use crate::specifications::{Columns, NameEntry, SpecificationKind};
-use field_types::names::Name;
+use text_lines::field_types::names::Name;
 use text_lines::lines::{are_blanks, is_blank};
 
 impl Line {

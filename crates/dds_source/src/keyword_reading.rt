@@ -18,8 +18,8 @@ use crate::keyword_texts::{
 };
 use crate::keywords::{Keyword, Keywords};
 use crate::lines::Line;
-use field_types::names::Name;
 use std::alloc::{AllocError, Global};
+use text_lines::field_types::names::Name;
 
 /// The keywords of joined lines; what is wrong with them is noted.
 #[tactic(auto, using(crate::proofs::FaultLemmas::first_after_append), unfolding(crate::specs::Reading::keywords_of, crate::specs::Reading::joined_faults))]

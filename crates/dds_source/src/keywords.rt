@@ -1,8 +1,8 @@
 //! Keywords with their places.
 
 use crate::arguments::Arguments;
-use field_types::lists::ListOf;
-use field_types::names::Name;
+use text_lines::field_types::lists::ListOf;
+use text_lines::field_types::names::Name;
 
 /// A keyword as it stands in a source.
 #[derive(Drop)]

@@ -6,7 +6,7 @@ ghost use Rattle.dds_source.specs.Numbers.{decimal};
 ghost use Rattle.dds_source.specs.ArgumentTexts.{is_unsigned, number_of, number, signed};
 
 use crate::numbers::{all_digits, are_digits, decimal, decimal_after};
-use field_types::values::Dec;
+use text_lines::field_types::values::Dec;
 
 /// The number of a literal; `None` where the word is none.
 pub(crate) fn number(word: &[u8]) -> Option<Dec>

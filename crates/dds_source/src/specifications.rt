@@ -3,9 +3,9 @@ ghost use Rattle.std.specs.Prelude.{◌≡◌, [], ◌∷◌, ◌++◌, OnOk};
 ghost use Rattle.dds_source.specs.Reading.{with_keywords};
 
 use crate::keywords::Keywords;
-use field_types::names::Name;
 use std::alloc::{AllocError, Global};
 use std::marker::Model;
+use text_lines::field_types::names::Name;
 
 /// What a specification is, by position 17.
 #[derive(Clone, Copy, PartialEq)]

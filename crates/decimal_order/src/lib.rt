@@ -4,3 +4,5 @@
 pub mod laws;
 pub mod order;
 pub mod powers;
+
+pub use field_types;

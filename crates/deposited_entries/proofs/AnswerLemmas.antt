@@ -7,7 +7,7 @@ use Rattle.library_steps.specs.State.{State, memory_of, job_at}
 use Rattle.library_steps.specs.Change.{Change, changed}
 use Rattle.library_steps.specs.Step.{change, MayAnswer}
 use Rattle.library_steps.specs.History.{is_running}
-use Rattle.joint_state.specs.Sound.{IsSound, Does, after}
+use Rattle.cycles_kept.specs.Sound.{IsSound, Does, after}
 
 changed-keeps : (P : State → Type 0) (s t : State) (reply : Reply) (r : Result Change Reply) → P s → ((done : Change) → r ≡ Ok done → P (after s done)) → (t, reply) ≡ changed s r → P t
 changed-keeps P s t reply (Ok done) holds kept is = subst P (sym (ap (λ p. p.0) is)) (kept done refl)

@@ -41,9 +41,9 @@ use Rattle.library_steps.specs.SlotChange.{NewSlot, drafts_of, image_bytes, imag
 use Rattle.library_steps.specs.State.{State, Memory, FileState, memory_of, fields_of, job_at, job_of, open_named}
 use Rattle.library_steps.specs.Step.{change}
 use Rattle.library_steps.specs.WriteRecord.{write_plan, write_change, write_call}
-use Rattle.lawful_states.specs.Lawful.{HoldsValues}
-use Rattle.lawful_states.specs.Owners.{Owns}
-use Rattle.joint_state.specs.Sound.{Does, IsSound}
+use Rattle.journal_kept.specs.Lawful.{HoldsValues}
+use Rattle.journal_kept.specs.Owners.{Owns}
+use Rattle.cycles_kept.specs.Sound.{Does, IsSound}
 use Rattle.library_kept.proofs.ChangeLemmas.{MayChange, write-may, update-may, delete-may}
 use Rattle.library_kept.proofs.FieldLemmas.{length-record}
 use Rattle.library_kept.proofs.ListLemmas.{each-weaker}

@@ -33,7 +33,7 @@ use Rattle.library_steps.specs.SlotChange.{NewSlot, change_made, cycle_for, slot
 use Rattle.library_steps.specs.State.{State, Memory, FileState, MemberStatus, CycleState, JobState, begun, job_changed, job_of, memory_of, new_job, open_named, with_status}
 use Rattle.library_steps.specs.Step.{change}
 use Rattle.library_steps.specs.WriteRecord.{write_plan, write_change, write_call}
-use Rattle.joint_state.specs.Sound.{Does, after}
+use Rattle.cycles_kept.specs.Sound.{Does, after}
 use Rattle.library_kept.proofs.ListLemmas.{each-append, each-map}
 use Rattle.library_kept.proofs.RequestLemmas.{changes-equal}
 use Rattle.library_kept.proofs.ResultLemmas.{does-each}

@@ -31,7 +31,7 @@ use Rattle.library_steps.specs.State.{State, Memory, CycleState, JobState, begun
 use Rattle.library_steps.specs.Step.{change}
 use Rattle.library_steps.specs.Uses.{changes_in}
 use Rattle.library_steps.specs.WriteRecord.{write_plan, write_change, write_call}
-use Rattle.joint_state.specs.Sound.{Does, after}
+use Rattle.cycles_kept.specs.Sound.{Does, after}
 use Rattle.cycles_kept.proofs.BoundarySteps.{taken_back-jobs}
 use Rattle.cycles_kept.proofs.HoldLemmas.{holds-done}
 use Rattle.cycles_kept.proofs.PutLemmas.{undos-for}

@@ -22,12 +22,12 @@ use Rattle.library_steps.specs.EndJob.{definition_entries}
 use Rattle.library_steps.specs.History.{is_running}
 use Rattle.library_steps.specs.State.{State, FileState, CycleState, JobState, memory_of, format_in, fields_of, job_at, job_of}
 use Rattle.library_steps.specs.Uses.{changes_in}
-use Rattle.lawful_states.specs.Owners.{Owns, has_number}
-use Rattle.lawful_states.specs.Lawful.{CycleGoesBack, GoesBack, IsBased}
-use Rattle.lawful_states.proofs.MemberLemmas.{AllByRecursion-get, IsThere-is_some}
-use Rattle.joint_state.specs.Agreed.{StaysJournaled, is_journaled}
-use Rattle.joint_state.specs.Sound.{IsSound}
-use Rattle.joint_state.specs.Told.{IsRecordOf, IsTold}
+use Rattle.journal_kept.specs.Owners.{Owns, has_number}
+use Rattle.journal_kept.specs.Lawful.{CycleGoesBack, GoesBack, IsBased}
+use Rattle.journal_kept.proofs.MemberLemmas.{AllByRecursion-get, IsThere-is_some}
+use Rattle.cycles_kept.specs.Agreed.{StaysJournaled, is_journaled}
+use Rattle.cycles_kept.specs.Sound.{IsSound}
+use Rattle.cycles_kept.specs.Told.{IsRecordOf, IsTold}
 use Rattle.journal_kept.proofs.StatusLemmas.{journaled-owned}
 use Rattle.library_kept.proofs.DraftLemmas.{DraftTold}
 use Rattle.library_kept.proofs.ListLemmas.{each-append, each-weaker}

@@ -36,7 +36,7 @@ use Rattle.library_steps.specs.State.{State, Memory, memory_of, job_of, open_nam
 use Rattle.library_steps.specs.Step.{change}
 use Rattle.library_steps.specs.WriteRecord.{write_plan, write_change, write_call}
 use Rattle.member_slots.specs.Members.{member_of}
-use Rattle.joint_state.specs.Sound.{Does}
+use Rattle.cycles_kept.specs.Sound.{Does}
 use Rattle.library_kept.proofs.ListLemmas.{each-append}
 use Rattle.library_kept.proofs.RequestLemmas.{changes-equal}
 use Rattle.library_kept.proofs.ResultLemmas.{ok-equal, bind-ok, does-each}

@@ -14,7 +14,7 @@ use Rattle.library_steps.specs.History.{is_running}
 use Rattle.library_steps.specs.State.{State, CycleState, JobState, begun, job_at, memory_of, new_job}
 use Rattle.library_steps.specs.Step.{MayAnswer, change}
 use Rattle.library_steps.specs.Uses.{changes_in}
-use Rattle.joint_state.specs.Sound.{Does, IsSound, after}
+use Rattle.cycles_kept.specs.Sound.{Does, IsSound, after}
 use Rattle.cycles_kept.proofs.HoldLemmas.{holds-done}
 use Rattle.cycles_kept.proofs.JournalLemmas.{IsJournaled, last-after}
 use Rattle.cycles_kept.proofs.JournalSteps.{change-journaled}

@@ -38,8 +38,8 @@ use Rattle.library_steps.specs.SlotChange.{NewSlot, change_made, cycle_for, slot
 use Rattle.library_steps.specs.State.{State, Memory, CycleState, JobState, job_at, job_changed, job_of, memory_of, open_named, with_status}
 use Rattle.library_steps.specs.Step.{change}
 use Rattle.library_steps.specs.WriteRecord.{write_plan, write_change, write_call}
-use Rattle.joint_state.specs.Sound.{Does}
-use Rattle.lawful_states.proofs.FindLemmas.{found-is}
+use Rattle.cycles_kept.specs.Sound.{Does}
+use Rattle.journal_kept.proofs.FindLemmas.{found-is}
 use Rattle.cycles_kept.proofs.BoundarySteps.{taken_back-jobs}
 use Rattle.cycles_kept.proofs.PutLemmas.{jobs-noted, length-numbered}
 use Rattle.library_kept.proofs.PlanLemmas.{job-there}

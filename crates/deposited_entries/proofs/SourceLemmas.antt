@@ -25,7 +25,7 @@ use Rattle.library_steps.specs.State.{Memory, file_named}
 use Rattle.library_steps.specs.Uses.{changer_of_any, unused}
 use Rattle.logical_model.specs.Bases.{base_members}
 use Rattle.logical_model.specs.FilePaths.{logical_paths}
-use Rattle.lawful_states.proofs.FindLemmas.{found-is}
+use Rattle.journal_kept.proofs.FindLemmas.{found-is}
 use Rattle.library_kept.proofs.ResultLemmas.{ok-equal, bind-ok}
 use Rattle.deposited_entries.specs.Deposits.{AreShort, IsShort}
 use Rattle.deposited_entries.proofs.WideLemmas.{physical-wide}

@@ -34,9 +34,9 @@ use Rattle.library_steps.specs.SlotChange.{NewSlot, drafts_of, images_of, slot_c
 use Rattle.library_steps.specs.State.{State, Memory, MemberStatus, CycleState, memory_of, job_at, job_of, open_named}
 use Rattle.library_steps.specs.Step.{change}
 use Rattle.library_steps.specs.WriteRecord.{write_plan, write_change, write_call}
-use Rattle.lawful_states.specs.Lawful.{CycleGoesBack}
-use Rattle.lawful_states.proofs.BackLemmas.{CycleGoesBack-of}
-use Rattle.joint_state.specs.Sound.{Does, IsSound}
+use Rattle.journal_kept.specs.Lawful.{CycleGoesBack}
+use Rattle.journal_kept.proofs.BackLemmas.{CycleGoesBack-of}
+use Rattle.cycles_kept.specs.Sound.{Does, IsSound}
 use Rattle.library_kept.proofs.ChangeLemmas.{MayChange, write-may, update-may, delete-may}
 use Rattle.library_kept.proofs.ListLemmas.{each-append}
 use Rattle.library_kept.proofs.PlanLemmas.{running-job}

@@ -15,7 +15,7 @@ ghost use Rattle.library_steps.specs.State.{State, begun, empty_library, job_at}
 ghost use Rattle.library_steps.specs.Change.{Change};
 ghost use Rattle.library_steps.specs.History.{is_running};
 ghost use Rattle.library_steps.specs.Step.{MayAnswer};
-ghost use Rattle.joint_state.specs.Sound.{Does, IsSound, after};
+ghost use Rattle.cycles_kept.specs.Sound.{Does, IsSound, after};
 ghost use Rattle.deposited_entries.specs.Deposits.{AreShort, AreSwitch, switches};
 ghost use Rattle.deposited_entries.specs.Counted.{IsCounted};
 ghost use Rattle.deposited_entries.specs.Groups.{GroupsWithin};

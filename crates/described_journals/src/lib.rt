@@ -11,4 +11,5 @@ mod whole;
 
 pub use described::{DescribedFile, DescribedFiles};
 pub use descriptions::DataDescriptions;
+pub use restart_laws;
 pub use whole::described_files;

@@ -2,3 +2,8 @@ pub mod WrittenLemmas
 pub mod OneImageLemmas
 pub mod FormLemmas
 pub mod AcceptedLemmas
+pub use Rattle.field_values.proofs.BinaryLemmas
+pub use Rattle.field_values.proofs.DigitLemmas
+pub use Rattle.field_values.proofs.FieldLemmas
+pub use Rattle.field_values.proofs.MomentLemmas
+pub use Rattle.field_values.proofs.ScaleLemmas

@@ -1,1 +1,9 @@
 pub mod WrittenForm
+pub use Rattle.field_values.specs.Binary
+pub use Rattle.field_values.specs.Digits
+pub use Rattle.field_values.specs.FieldBytes
+pub use Rattle.field_values.specs.FieldTypes
+pub use Rattle.field_values.specs.FirstBad
+pub use Rattle.field_values.specs.Moments
+pub use Rattle.field_values.specs.Packed
+pub use Rattle.field_values.specs.Zoned

@@ -32,3 +32,5 @@ pub fn held_is_accepted()
     ensures accepted { (t : FieldType) (v : Value) (image : List ℕ) → stands t v image → fault_of t v ≡ None }
     ensures same { (t : FieldType) (v : Value) (image : List ℕ) → stands t v image → as_held t v ≡ v }
 {}
+
+pub use field_values;

@@ -3,11 +3,11 @@ use Rattle.std.proofs.Common.{◌≡◌, ℕ, ◌+◌, ◌*◌, ◌^◌, ◌<◌
 use Rattle.std.specs.List.{list_all}
 use Rattle.std.proofs.lemmas.List.{take-append-drop, take-take}
 use Rattle.std.proofs.lemmas.Bool.{and_parts, eqb-true, eq-eqb, cases_order, both_ways}
-use Rattle.field_types.specs.declared.kinds.Kind.{Kind}
-use Rattle.field_types.specs.declared.kinds.Kind.TheVariants.{Char, Zoned, Packed, Binary, Date, Time, Stamp}
-use Rattle.field_types.specs.declared.kinds.FieldType.{FieldType}
-use Rattle.field_types.specs.declared.values.Value.{Value}
-use Rattle.field_types.specs.declared.values.Value.TheVariants.{Chars}
+use Rattle.decimal_order.below.field_types.specs.declared.kinds.Kind.{Kind}
+use Rattle.decimal_order.below.field_types.specs.declared.kinds.Kind.TheVariants.{Char, Zoned, Packed, Binary, Date, Time, Stamp}
+use Rattle.decimal_order.below.field_types.specs.declared.kinds.FieldType.{FieldType}
+use Rattle.decimal_order.below.field_types.specs.declared.values.Value.{Value}
+use Rattle.decimal_order.below.field_types.specs.declared.values.Value.TheVariants.{Chars}
 use Rattle.field_values.specs.declared.fields.ImageFault.{ImageFault}
 use Rattle.field_values.specs.declared.fields.ImageFault.TheVariants.{BadImage, NoMemory}
 use Rattle.field_values.specs.FieldTypes.{IsFieldType, is_allowed, is_numeric, width, width_of, packed_width, binary_width}

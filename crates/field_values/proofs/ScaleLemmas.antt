@@ -5,9 +5,9 @@ use Rattle.std.specs.Bool.{then_some}
 use Rattle.std.proofs.lemmas.Nat.{pow-add}
 use Rattle.std.proofs.lemmas.Bool.{eqb-true, eqb-false, eq-eqb, ne_eqb, le-leb}
 use Rattle.std.proofs.Math.Nat.{one-le-pow, pow-le-pow_right, mul-div_left, mul-mod_left, mul_assoc, dvd_of_mod-eq-zero, mod-eq-zero_of_dvd, dvd_of_mul-dvd-mul_right, le_of_dvd, div-mul_cancel, zero-mod, zero-div}
-use Rattle.field_types.specs.declared.faults.ValueFault.{ValueFault}
-use Rattle.field_types.specs.declared.faults.ValueFault.TheVariants.{WrongKind, TooManyDecimals, TooWide, BadDate, ReadOnlyField}
-use Rattle.field_types.specs.declared.values.Dec.{Dec}
+use Rattle.decimal_order.below.field_types.specs.declared.faults.ValueFault.{ValueFault}
+use Rattle.decimal_order.below.field_types.specs.declared.faults.ValueFault.TheVariants.{WrongKind, TooManyDecimals, TooWide, BadDate, ReadOnlyField}
+use Rattle.decimal_order.below.field_types.specs.declared.values.Dec.{Dec}
 use Rattle.field_values.specs.Digits.{signed, is_negative}
 use Rattle.field_values.specs.FieldBytes.{Rescaled, units_at, number_fault}
 

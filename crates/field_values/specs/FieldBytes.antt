@@ -1,14 +1,14 @@
 -- The bytes of a value: which image of a field stands for which value, which one is written, why none is,
 -- and where an image stops being the beginning of one. (DDS for Physical and Logical Files, "Data type".)
 use Rattle.std.specs.Prelude.{◌≡◌, ℕ, ◌-◌, ◌*◌, ◌/◌, ◌%◌, ◌^◌, ◌≤◌, Bool, not, ◌==◌, ◌&&◌, nat_lt, nat_le, ℤ, unsigned_abs, Option, Some, None, Result, Ok, Err, is_some, option_map, List, ◌++◌, length, replicate, if◌then◌else◌}
-use Rattle.field_types.specs.declared.kinds.Kind.{Kind}
-use Rattle.field_types.specs.declared.kinds.Kind.TheVariants.{Char, Zoned, Packed, Binary, Date, Time, Stamp}
-use Rattle.field_types.specs.declared.kinds.FieldType.{FieldType}
-use Rattle.field_types.specs.declared.values.Dec.{Dec}
-use Rattle.field_types.specs.declared.values.Value.{Value}
-use Rattle.field_types.specs.declared.values.Value.TheVariants.{Chars, Number}
-use Rattle.field_types.specs.declared.faults.ValueFault.{ValueFault}
-use Rattle.field_types.specs.declared.faults.ValueFault.TheVariants.{WrongKind, TooManyDecimals, TooWide, BadDate, ReadOnlyField}
+use Rattle.decimal_order.below.field_types.specs.declared.kinds.Kind.{Kind}
+use Rattle.decimal_order.below.field_types.specs.declared.kinds.Kind.TheVariants.{Char, Zoned, Packed, Binary, Date, Time, Stamp}
+use Rattle.decimal_order.below.field_types.specs.declared.kinds.FieldType.{FieldType}
+use Rattle.decimal_order.below.field_types.specs.declared.values.Dec.{Dec}
+use Rattle.decimal_order.below.field_types.specs.declared.values.Value.{Value}
+use Rattle.decimal_order.below.field_types.specs.declared.values.Value.TheVariants.{Chars, Number}
+use Rattle.decimal_order.below.field_types.specs.declared.faults.ValueFault.{ValueFault}
+use Rattle.decimal_order.below.field_types.specs.declared.faults.ValueFault.TheVariants.{WrongKind, TooManyDecimals, TooWide, BadDate, ReadOnlyField}
 use Rattle.field_values.specs.FieldTypes.{width, packed_width, binary_width, is_numeric, is_moment_kind}
 use Rattle.field_values.specs.Digits.{digits_in, sign_of, signed, is_negative}
 use Rattle.field_values.specs.Zoned.{zoned_number, zoned_bytes}

@@ -1,9 +1,9 @@
 -- Field types: which lengths and decimals a data description may give, and how many bytes a field has.
 -- (DDS for Physical and Logical Files, "Length", "Data type" and "Decimal positions".)
 use Rattle.std.specs.Prelude.{ℕ, ◌+◌, ◌/◌, Bool, true, false, ◌&&◌, ◌==◌, nat_le, IsTrue, if◌then◌else◌}
-use Rattle.field_types.specs.declared.kinds.Kind.{Kind}
-use Rattle.field_types.specs.declared.kinds.Kind.TheVariants.{Char, Zoned, Packed, Binary, Date, Time, Stamp}
-use Rattle.field_types.specs.declared.kinds.FieldType.{FieldType}
+use Rattle.decimal_order.below.field_types.specs.declared.kinds.Kind.{Kind}
+use Rattle.decimal_order.below.field_types.specs.declared.kinds.Kind.TheVariants.{Char, Zoned, Packed, Binary, Date, Time, Stamp}
+use Rattle.decimal_order.below.field_types.specs.declared.kinds.FieldType.{FieldType}
 
 abbrev pub is_between : ℕ → ℕ → ℕ → Bool
 is_between low high n = nat_le low n && nat_le n high

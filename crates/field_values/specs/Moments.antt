@@ -2,8 +2,8 @@
 -- (DDS for Physical and Logical Files, "Data type", L, T and Z; DATFMT and TIMFMT, *ISO.)
 use Rattle.std.specs.Prelude.{ℕ, ◌%◌, Bool, false, not, ◌&&◌, ◌||◌, ◌==◌, List, length, map, slice_index, if◌then◌else◌}
 use Rattle.std.specs.List.{list_all}
-use Rattle.field_types.specs.declared.kinds.Kind.{Kind}
-use Rattle.field_types.specs.declared.kinds.Kind.TheVariants.{Char, Zoned, Packed, Binary, Date, Time, Stamp}
+use Rattle.decimal_order.below.field_types.specs.declared.kinds.Kind.{Kind}
+use Rattle.decimal_order.below.field_types.specs.declared.kinds.Kind.TheVariants.{Char, Zoned, Packed, Binary, Date, Time, Stamp}
 use Rattle.field_values.specs.FieldTypes.{is_between}
 use Rattle.field_values.specs.Digits.{number_in, low_half}
 use Rattle.field_values.specs.Zoned.{is_zone_digit}

@@ -5,9 +5,9 @@ ghost use Rattle.std.specs.Result.{result_err};
 ghost use Rattle.field_values.specs.Digits.{number_in, high_half, low_half, is_minus, is_sign, sign_of, signed, is_negative};
 ghost use Rattle.field_values.specs.FieldBytes.{units_at, number_fault, Rescaled};
 
+use decimal_order::field_types::faults::ValueFault;
+use decimal_order::field_types::values::Dec;
 use decimal_order::powers::{power_of_ten, widened};
-use field_types::faults::ValueFault;
-use field_types::values::Dec;
 
 /// The most digits that a number has.
 pub const MOST_DIGITS: u32 = 31;

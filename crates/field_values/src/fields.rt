@@ -7,10 +7,10 @@ ghost use Rattle.field_values.specs.FirstBad.{TellsFirstBad};
 ghost use Rattle.field_values.specs.FieldBytes.{held, stands, written, units_at, filled, decimal, fault_of, IsBadAt};
 
 use crate::{binary, decimals, moments, packed, zoned};
-use field_types::faults::{BadImage, ValueFault};
-use field_types::kinds::{FieldType, Kind};
-use field_types::texts::Text;
-use field_types::values::{Dec, Value};
+use decimal_order::field_types::faults::{BadImage, ValueFault};
+use decimal_order::field_types::kinds::{FieldType, Kind};
+use decimal_order::field_types::texts::Text;
+use decimal_order::field_types::values::{Dec, Value};
 use std::alloc::{AllocError, Global};
 
 /// The blank, which fills a character field.

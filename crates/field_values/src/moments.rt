@@ -5,7 +5,7 @@ ghost use Rattle.field_values.specs.Moments.{spelled, spells, spells_in, is_date
 ghost use Rattle.field_values.specs.FirstBad.{part, TellsFirstBad, IsBadPart};
 
 use crate::{bounds, decimals};
-use field_types::kinds::Kind;
+use decimal_order::field_types::kinds::Kind;
 use jiff::civil;
 
 const HYPHEN: u8 = 0x60;

@@ -2,7 +2,7 @@
 use Rattle.std.proofs.Common.{◌≡◌, Some, None, refl, ap}
 use Rattle.dds_physical.specs.declared.physical_files.PhysicalSpec.{PhysicalSpec}
 use Rattle.logical_model.specs.Bases.{FileSpec, PhysicalFile, LogicalFile}
-use Rattle.library_steps.specs.State.{FileState, physical_in, if_physical, format_in}
+use Rattle.lawful_states.specs.State.{FileState, physical_in, if_physical, format_in}
 use Rattle.lawful_states.proofs.NameLemmas.{some-equal}
 
 -- a physical file is its own base, with the fields of what it is

@@ -6,10 +6,10 @@ use Rattle.std.specs.Option.{is_some, option_map}
 use Rattle.std.specs.Map.{keys_of}
 use Rattle.library_model.specs.Named.{Named, named, same_name}
 use Rattle.logical_model.specs.Bases.{FileSpec, PhysicalFile, LogicalFile}
-use Rattle.library_steps.specs.State.{Memory, FileState, MemberStatus}
-use Rattle.library_steps.specs.CreatePhysicalFile.{NewFile, new_file}
-use Rattle.library_steps.specs.SlotChange.{status_among}
-use Rattle.library_steps.specs.UniqueKeys.{UniquePath, has_member, uniques_by}
+use Rattle.lawful_states.specs.State.{Memory, FileState, MemberStatus}
+use Rattle.lawful_states.specs.CreatePhysicalFile.{NewFile, new_file}
+use Rattle.lawful_states.specs.SlotChange.{status_among}
+use Rattle.lawful_states.specs.UniqueKeys.{UniquePath, has_member, uniques_by}
 use Rattle.lawful_states.specs.Owners.{has_number, numbers_of, owner, Owns, AreApart}
 use Rattle.lawful_states.specs.Physical.{IsPhysical, AllArePhysical}
 use Rattle.lawful_states.proofs.NameLemmas.{same_name-self, some-equal}

@@ -2,9 +2,9 @@
 use Rattle.std.proofs.Common.{◌≡◌, ℕ, Bool, true, false, cond, not, Some, List, [], ◌∷◌, ◌++◌, subst}
 use Rattle.logical_model.specs.Bases.{FileSpec}
 use Rattle.library_model.specs.Named.{Named, named, same_name}
-use Rattle.library_steps.specs.State.{FileState, MemberStatus, status_changed}
-use Rattle.library_steps.specs.DeleteFile.{without_file}
-use Rattle.library_steps.specs.MemberCommands.{file_changed, with_member_name}
+use Rattle.lawful_states.specs.State.{FileState, MemberStatus, status_changed}
+use Rattle.lawful_states.specs.DeleteFile.{without_file}
+use Rattle.lawful_states.specs.MemberCommands.{file_changed, with_member_name}
 use Rattle.file_catalogue.specs.Keyed.{HasOwnKey, HaveOwnKeys, IsKeyedFile, AllAreKeyed}
 use Rattle.lawful_states.proofs.NameLemmas.{some-equal}
 use Rattle.lawful_states.proofs.ChangeLemmas.{each_changed}

@@ -3,9 +3,9 @@ use Rattle.std.proofs.Common.{◌≡◌, ◌≤◌, ℕ, true, false, cond, not,
 use Rattle.std.specs.Map.{set_value}
 use Rattle.logical_model.specs.Bases.{FileSpec, PhysicalFile, LogicalFile}
 use Rattle.library_model.specs.Named.{Named, named, same_name}
-use Rattle.library_steps.specs.declared.limits.TheConstants.{MOST_MEMBERS}
-use Rattle.library_steps.specs.State.{FileState, MemberStatus, status_changed}
-use Rattle.library_steps.specs.DeleteFile.{without_file}
+use Rattle.lawful_states.below.library_steps.specs.declared.limits.TheConstants.{MOST_MEMBERS}
+use Rattle.lawful_states.specs.State.{FileState, MemberStatus, status_changed}
+use Rattle.lawful_states.specs.DeleteFile.{without_file}
 use Rattle.lawful_states.specs.Owners.{has_number}
 use Rattle.lawful_states.specs.Physical.{IsPhysical}
 use Rattle.file_catalogue.specs.OwnMembers.{HaveRoom, HasOwnMembers, HaveOwnMembers, LogicalHaveNone}

@@ -2,10 +2,10 @@
 use Rattle.std.specs.Prelude.{ℕ, Option, Some, None, List}
 use Rattle.entry_codec.specs.declared.kinds.FileKind.{FileKind}
 use Rattle.entry_codec.specs.declared.kinds.FileKind.TheVariants as kinds
-use Rattle.dds_logical.specs.declared.views.LogicalSpec.{LogicalSpec}
+use Rattle.logical_model.below.dds_logical.specs.declared.views.LogicalSpec.{LogicalSpec}
 use Rattle.logical_model.specs.Bases.{FileSpec, PhysicalFile, LogicalFile}
 use Rattle.library_model.specs.Named.{Named}
-use Rattle.library_steps.specs.State.{FileState, MemberStatus}
+use Rattle.lawful_states.specs.State.{FileState, MemberStatus}
 use Rattle.file_catalogue.specs.declared.bodies.FileBody.{FileBody}
 use Rattle.file_catalogue.specs.declared.bodies.FileBody.TheVariants.{Physical, Logical}
 

@@ -5,7 +5,7 @@ use Rattle.dds_source.specs.declared.faults.SourceError.{SourceError}
 use Rattle.dds_source.specs.declared.faults.SourceError.TheVariants as source_error
 use Rattle.dds_physical.specs.declared.physical_files.PhysicalError.{PhysicalError}
 use Rattle.dds_physical.specs.declared.physical_files.PhysicalError.TheVariants.{NoMemory, Fault}
-use Rattle.library_steps.specs.CreatePhysicalFile.{NewFile, described}
+use Rattle.lawful_states.specs.CreatePhysicalFile.{NewFile, described}
 
 -- why a source that can't be read describes no file
 abbrev pub unread : SourceError → PhysicalError

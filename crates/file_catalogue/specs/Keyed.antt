@@ -6,7 +6,7 @@ use Rattle.dds_physical.specs.declared.physical_files.PhysicalSpec.{PhysicalSpec
 use Rattle.logical_model.specs.Bases.{FileSpec, PhysicalFile, LogicalFile}
 use Rattle.physical_paths.specs.KeyedFiles.{IsKeyed}
 use Rattle.library_model.specs.Named.{Named, named}
-use Rattle.library_steps.specs.State.{FileState}
+use Rattle.lawful_states.specs.State.{FileState}
 
 abbrev pub HasOwnKey : FileSpec → Type 0
 HasOwnKey (PhysicalFile spec) = IsKeyed spec

@@ -1,11 +1,11 @@
 -- Which files have members: a physical file from its creation on, and a logical file none of its own. (Database Programming, "Physical file members".)
 use Rattle.std.specs.Prelude.{◌≡◌, ◌≤◌, ℕ, Some, List, [], ◌∷◌, length}
 use Rattle.std.specs.List.{AllByRecursion}
-use Rattle.dds_logical.specs.declared.views.LogicalSpec.{LogicalSpec}
+use Rattle.logical_model.below.dds_logical.specs.declared.views.LogicalSpec.{LogicalSpec}
 use Rattle.logical_model.specs.Bases.{FileSpec, PhysicalFile, LogicalFile}
 use Rattle.library_model.specs.Named.{Named, named}
-use Rattle.library_steps.specs.declared.limits.TheConstants.{MOST_MEMBERS}
-use Rattle.library_steps.specs.State.{FileState, MemberStatus}
+use Rattle.lawful_states.below.library_steps.specs.declared.limits.TheConstants.{MOST_MEMBERS}
+use Rattle.lawful_states.specs.State.{FileState, MemberStatus}
 
 -- where there are members, there is memory for all that a file may have
 abbrev pub HaveRoom : Named MemberStatus → (capacity : ℕ) → Type 0

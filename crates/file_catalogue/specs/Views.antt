@@ -4,10 +4,10 @@ use Rattle.dds_source.specs.Reading.{source_of}
 use Rattle.dds_source.specs.declared.faults.SourceError.{SourceError}
 use Rattle.dds_source.specs.declared.faults.SourceError.TheVariants as source_error
 use Rattle.dds_physical.specs.declared.physical_files.PhysicalSpec.{PhysicalSpec}
-use Rattle.dds_logical.specs.Complete.{Fails}
-use Rattle.dds_logical.specs.declared.logical_files.LogicalFault.{LogicalFault}
-use Rattle.dds_logical.specs.declared.logical_files.LogicalFault.TheVariants.{NoMemory, Fault}
-use Rattle.library_steps.specs.CreateLogicalFile.{NewLogical, logical_by}
+use Rattle.logical_model.specs.Complete.{Fails}
+use Rattle.logical_model.below.dds_logical.specs.declared.logical_files.LogicalFault.{LogicalFault}
+use Rattle.logical_model.below.dds_logical.specs.declared.logical_files.LogicalFault.TheVariants.{NoMemory, Fault}
+use Rattle.lawful_states.specs.CreateLogicalFile.{NewLogical, logical_by}
 
 -- why a source that can't be read describes no file
 abbrev pub unread : SourceError → LogicalFault

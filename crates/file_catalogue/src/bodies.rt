@@ -2,16 +2,16 @@
 ghost use Rattle.std.specs.Prelude.{◌≡◌, option_copied};
 ghost use Rattle.std.specs.Option.{option_map};
 ghost use Rattle.library_model.specs.Named.{Named};
-ghost use Rattle.library_steps.specs.State as state;
-ghost use Rattle.library_steps.specs.DeleteFile.{file_refers};
+ghost use Rattle.lawful_states.specs.State as state;
+ghost use Rattle.lawful_states.specs.DeleteFile.{file_refers};
 ghost use Rattle.file_catalogue.specs.Bodies.{source_in, spec_in, made_of, logical_in, kind_in};
 
 use crate::described::Described;
 use crate::views::DescribedView;
-use dds_logical::LogicalSpec;
 use entry_codec::FileKind;
 use field_types::names::Name;
 use field_types::texts::SourceText;
+use logical_model::dds_logical::LogicalSpec;
 use record_fmt::formats::Format;
 
 /// A data description, and what it describes.

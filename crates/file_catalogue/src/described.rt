@@ -2,7 +2,7 @@
 ghost use Rattle.std.specs.Prelude.{◌≡◌};
 ghost use Rattle.dds_source.specs.Reading.{source_of};
 ghost use Rattle.record_fmt.specs.Layout.{IsLaidOut};
-ghost use Rattle.library_steps.specs.DeleteFile.{source_refers};
+ghost use Rattle.lawful_states.specs.DeleteFile.{source_refers};
 ghost use Rattle.physical_paths.specs.KeyedFiles.{IsKeyed};
 ghost use Rattle.file_catalogue.specs.Described.{Describes, unread};
 
@@ -29,7 +29,7 @@ pub struct Described {
 impl Model for Described {
     ghost use Rattle.std.specs.Prelude.{◌≡◌, Ok};
     ghost use Rattle.dds_source.specs.Reading.{source_of};
-    ghost use Rattle.library_steps.specs.CreatePhysicalFile.{NewFile};
+    ghost use Rattle.lawful_states.specs.CreatePhysicalFile.{NewFile};
     ghost use Rattle.physical_paths.specs.KeyedFiles.{IsKeyed};
 
     ghost Value = { NewFile };

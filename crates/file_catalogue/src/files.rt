@@ -3,14 +3,14 @@ ghost use Rattle.std.specs.Prelude.{◌≡◌, ◌<◌, [], length, IfOk, option
 ghost use Rattle.std.specs.Option.{option_map, option_map_or};
 ghost use Rattle.record_fmt.specs.Layout.{IsLaidOut};
 ghost use Rattle.library_model.specs.Named.{named};
-ghost use Rattle.library_steps.specs.declared.limits.TheConstants.{MOST_MEMBERS};
-ghost use Rattle.library_steps.specs.State.{physical_in, if_physical, status_changed};
-ghost use Rattle.library_steps.specs.CreatePhysicalFile.{new_file};
-ghost use Rattle.library_steps.specs.CreateLogicalFile.{logical_file};
-ghost use Rattle.library_steps.specs.DeleteFile.{file_refers};
-ghost use Rattle.library_steps.specs.LogicalFiles.{base_in};
-ghost use Rattle.library_steps.specs.MemberCommands.{with_member_name};
-ghost use Rattle.library_steps.specs.SlotChange.{status_in};
+ghost use Rattle.lawful_states.below.library_steps.specs.declared.limits.TheConstants.{MOST_MEMBERS};
+ghost use Rattle.lawful_states.specs.State.{physical_in, if_physical, status_changed};
+ghost use Rattle.lawful_states.specs.CreatePhysicalFile.{new_file};
+ghost use Rattle.lawful_states.specs.CreateLogicalFile.{logical_file};
+ghost use Rattle.lawful_states.specs.DeleteFile.{file_refers};
+ghost use Rattle.lawful_states.specs.LogicalFiles.{base_in};
+ghost use Rattle.lawful_states.specs.MemberCommands.{with_member_name};
+ghost use Rattle.lawful_states.specs.SlotChange.{status_in};
 ghost use Rattle.lawful_states.specs.Physical.{IsPhysical};
 ghost use Rattle.file_catalogue.specs.Keyed.{HasOwnKey};
 ghost use Rattle.file_catalogue.specs.Bodies.{source_in, spec_in, logical_in, kind_in};
@@ -22,11 +22,11 @@ use crate::described::Described;
 use crate::members::Members;
 use crate::status::MemberStatus;
 use crate::views::DescribedView;
-use dds_logical::LogicalSpec;
 use entry_codec::FileKind;
 use field_types::names::Name;
 use field_types::texts::SourceText;
 use lawful_states::changes::StatusChange;
+use logical_model::dds_logical::LogicalSpec;
 use record_fmt::formats::{Field, Format};
 use std::alloc::{AllocError, Global};
 use std::marker::Model;
@@ -40,7 +40,7 @@ pub struct File {
 }
 
 impl Model for File {
-    ghost use Rattle.library_steps.specs.State.{FileState};
+    ghost use Rattle.lawful_states.specs.State.{FileState};
     ghost use Rattle.file_catalogue.specs.Keyed.{HasOwnKey};
     ghost use Rattle.file_catalogue.specs.Bodies.{spec_in, made_of};
     ghost use Rattle.file_catalogue.specs.OwnMembers.{HasOwnMembers};

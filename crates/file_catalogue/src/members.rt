@@ -1,15 +1,15 @@
 //! The members of a file.
 ghost use Rattle.std.specs.Prelude.{◌≡◌, ◌<◌, ◌≤◌, [], ◌∷◌, ◌++◌, length, map, IfOk, if◌then◌else◌, ◌==◌};
 ghost use Rattle.library_model.specs.Named.{named};
-ghost use Rattle.library_steps.specs.declared.limits.TheConstants.{MOST_MEMBERS};
-ghost use Rattle.library_steps.specs.CreatePhysicalFile.{new_status};
-ghost use Rattle.library_steps.specs.SlotChange.{status_in};
+ghost use Rattle.lawful_states.below.library_steps.specs.declared.limits.TheConstants.{MOST_MEMBERS};
+ghost use Rattle.lawful_states.specs.CreatePhysicalFile.{new_status};
+ghost use Rattle.lawful_states.specs.SlotChange.{status_in};
 ghost use Rattle.lawful_states.specs.Statuses.{after};
 
 use crate::status::MemberStatus;
 use field_types::names::Name;
 use lawful_states::changes::StatusChange;
-use library_steps::limits::MOST_MEMBERS;
+use lawful_states::library_steps::limits::MOST_MEMBERS;
 use std::alloc::{AllocError, Global};
 use std::marker::Model;
 
@@ -22,7 +22,7 @@ pub struct Members {
 impl Model for Members {
     ghost use Rattle.std.specs.Prelude.{vec_capacity};
     ghost use Rattle.library_model.specs.Named.{Named};
-    ghost use Rattle.library_steps.specs.State as state;
+    ghost use Rattle.lawful_states.specs.State as state;
     ghost use Rattle.file_catalogue.specs.OwnMembers.{HaveRoom};
 
     ghost Value = { Named state.MemberStatus };

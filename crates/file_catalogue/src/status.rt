@@ -1,7 +1,7 @@
 //! The status of a member, beside its slots.
 ghost use Rattle.std.specs.Prelude.{◌≡◌};
-ghost use Rattle.library_steps.specs.CreatePhysicalFile.{new_status};
-ghost use Rattle.library_steps.specs.MemberCommands.{renumbered};
+ghost use Rattle.lawful_states.specs.CreatePhysicalFile.{new_status};
+ghost use Rattle.lawful_states.specs.MemberCommands.{renumbered};
 ghost use Rattle.lawful_states.specs.Statuses.{after};
 
 use entry_codec::Images;
@@ -19,7 +19,7 @@ pub struct MemberStatus {
 }
 
 impl Model for MemberStatus {
-    ghost use Rattle.library_steps.specs.State as state;
+    ghost use Rattle.lawful_states.specs.State as state;
 
     ghost Value = { state.MemberStatus };
 

@@ -5,11 +5,11 @@ ghost use Rattle.logical_model.specs.Bases.{base_names};
 ghost use Rattle.library_model.specs.Named.{same_name};
 ghost use Rattle.file_catalogue.specs.Views.{DescribesView, unread};
 
-use dds_logical::{Bases, JoinedFile, LogicalFault, LogicalSpec, View, logical};
 use dds_source::faults::SourceError;
 use dds_source::read_source;
 use field_types::names::Name;
 use field_types::texts::SourceText;
+use logical_model::dds_logical::{Bases, JoinedFile, LogicalFault, LogicalSpec, View, logical};
 use std::alloc::Global;
 use std::marker::Model;
 
@@ -21,7 +21,7 @@ pub struct DescribedView {
 }
 
 impl Model for DescribedView {
-    ghost use Rattle.library_steps.specs.CreateLogicalFile.{NewLogical};
+    ghost use Rattle.lawful_states.specs.CreateLogicalFile.{NewLogical};
 
     ghost Value = { NewLogical };
 

@@ -22,11 +22,11 @@ use Rattle.file_model.specs.Paths as paths
 use Rattle.file_model.specs.Paths.{PathEntry, compare_ties, compare_entries, entry_of, selected_of, path}
 use Rattle.file_model.specs.Positions as model
 use Rattle.file_model.proofs.PathLemmas.{weaker, all-map, all-append}
-use Rattle.key_order.specs.KeyBytes.{key_bytes}
-use Rattle.key_order.specs.KeyFields.{AreBytes, Matches}
-use Rattle.key_order.specs.GivenValues.{IsOfBytes}
-use Rattle.key_order.proofs.KeyLemmas.{AreFit, keys-cmp, keys-cut, image-fits, given-fits, none-at-fault, of-bytes, Matches-itself, Matches-back}
-use Rattle.key_order.proofs.FitLemmas.{OfBytes}
+use Rattle.access_path.specs.KeyBytes.{key_bytes}
+use Rattle.access_path.specs.KeyFields.{AreBytes, Matches}
+use Rattle.access_path.specs.GivenValues.{IsOfBytes}
+use Rattle.access_path.proofs.KeyLemmas.{AreFit, keys-cmp, keys-cut, image-fits, given-fits, none-at-fault, of-bytes, Matches-itself, Matches-back}
+use Rattle.access_path.proofs.FitLemmas.{OfBytes}
 use Rattle.access_path.specs.PathBytes.{is_falling, parts_of, in_bytes, ShowsBytes, IsInBytes}
 use Rattle.access_path.proofs.OrderedLemmas.{all-in_order}
 use Rattle.file_cursor.specs.Finding.{compare_part, compare_bound, side_of, begins_with}

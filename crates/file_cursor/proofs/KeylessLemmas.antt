@@ -17,7 +17,7 @@ use Rattle.file_model.specs.declared.paths.PathSpec.{PathSpec}
 use Rattle.file_model.specs.Selection.{selects}
 use Rattle.file_model.specs.Paths.{PathEntry, compare_entries, entry_of, selected_of, entries_of, entries_from, path, path_key}
 use Rattle.file_model.proofs.PathLemmas.{weaker, all-filter, all-map, all-append}
-use Rattle.key_order.specs.KeyBytes.{key_bytes}
+use Rattle.access_path.specs.KeyBytes.{key_bytes}
 use Rattle.access_path.specs.PathBytes.{is_falling, in_bytes}
 use Rattle.access_path.proofs.OrderedLemmas.{all-in_order}
 use Rattle.file_cursor.specs.Reading.{numbered, AreNumbered}

@@ -13,8 +13,8 @@ use Rattle.file_model.specs.KeyOrder.{KeyValue}
 use Rattle.file_model.specs.Paths.{PathEntry, path}
 use Rattle.file_model.specs.Positions as model
 use Rattle.file_model.proofs.PathLemmas.{all-append}
-use Rattle.key_order.specs.KeyBytes.{key_bytes}
-use Rattle.key_order.specs.KeyFields.{Matches}
+use Rattle.access_path.specs.KeyBytes.{key_bytes}
+use Rattle.access_path.specs.KeyFields.{Matches}
 use Rattle.access_path.specs.PathBytes.{is_falling, in_bytes, IsInBytes}
 use Rattle.file_cursor.specs.Finding.{is_after, is_before, next_from, prior_from, begins_with, where_equal, next_equal, prior_equal, chain_key}
 use Rattle.file_cursor.specs.PositionBytes.{IsEntryOf, AreGiven, IsPositionOf, position_in_bytes}

@@ -11,9 +11,9 @@ use Rattle.file_model.specs.Views.{view_of}
 use Rattle.file_model.specs.Paths as paths
 use Rattle.file_model.specs.Paths.{PathEntry, compare_entries, entry_of, selected_of, path, path_key}
 use Rattle.file_model.proofs.PathLemmas.{weaker, all-map, all-append}
-use Rattle.key_order.specs.KeyBytes.{key_bytes}
-use Rattle.key_order.specs.KeyFields.{HasKey, key_width}
-use Rattle.key_order.proofs.WidthLemmas.{length-encoded}
+use Rattle.access_path.specs.KeyBytes.{key_bytes}
+use Rattle.access_path.specs.KeyFields.{HasKey, key_width}
+use Rattle.access_path.proofs.WidthLemmas.{length-encoded}
 use Rattle.access_path.specs.PathBytes.{parts_of, in_bytes}
 use Rattle.access_path.proofs.OrderedLemmas.{all-in_order}
 use Rattle.file_cursor.specs.PositionBytes.{HasKeysWithin}

@@ -9,9 +9,9 @@ use Rattle.file_model.specs.Paths.{PathEntry, selected_of}
 use Rattle.file_model.specs.Views.{view_of}
 use Rattle.member_slots.specs.Members.{NumberedMembers, member_of}
 use Rattle.file_model.specs.Positions as model
-use Rattle.key_order.specs.KeyBytes.{key_bytes}
-use Rattle.key_order.specs.KeyFields.{AreBytes, HasKey, key_width}
-use Rattle.key_order.specs.GivenValues.{key_fault, IsOfBytes}
+use Rattle.access_path.specs.KeyBytes.{key_bytes}
+use Rattle.access_path.specs.KeyFields.{AreBytes, HasKey, key_width}
+use Rattle.access_path.specs.GivenValues.{key_fault, IsOfBytes}
 use Rattle.access_path.specs.PathBytes.{parts_of, in_bytes}
 use Rattle.file_cursor.specs.CursorPosition.{CursorBound, ByKey, ByNumber, CursorPosition, Start, End, On, Before, Past}
 use Rattle.file_cursor.specs.Reading.{numbered}

@@ -8,8 +8,8 @@ use Rattle.std.specs.Ordering.{nat_cmp, ordering_reverse, is_lt, is_gt, on, then
 use Rattle.std.specs.Cmp.{IsTotalOrder, nat_cmp_total, on_total, back_total, then_total}
 use Rattle.std.specs.Cmp.Lexicographic.{lists_total, nat_list_cmp_total}
 use Rattle.decimal_order.proofs.OrderLemmas.{compare_numbers-total}
-use Rattle.field_types.specs.declared.values.Value.{Value}
-use Rattle.field_types.specs.declared.values.Value.TheVariants.{Chars, Number}
+use Rattle.decimal_order.below.field_types.specs.declared.values.Value.{Value}
+use Rattle.decimal_order.below.field_types.specs.declared.values.Value.TheVariants.{Chars, Number}
 use Rattle.key_spec.specs.declared.Ties.{Ties}
 use Rattle.key_spec.specs.declared.Ties.TheVariants.{Rising, Falling}
 use Rattle.file_model.specs.KeyOrder.{KeyValue, Missing, Ascending, Descending, compare_values, compare_key_values, compare_keys}

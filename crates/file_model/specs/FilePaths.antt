@@ -3,7 +3,7 @@
 -- project's own.)
 use Rattle.std.specs.Prelude.{ℕ, ◌+◌, ◌==◌, List, [], ◌∷◌, map, Option, Some, None, if◌then◌else◌}
 use Rattle.std.specs.List.{filter_map}
-use Rattle.field_values.specs.FieldTypes.{width}
+use Rattle.record_fmt.specs.FieldTypes.{width}
 use Rattle.key_spec.specs.declared.KeyPart.{KeyPart}
 use Rattle.key_spec.specs.declared.KeyPart.TheVariants.{Field as KeyField, Absent}
 use Rattle.key_spec.specs.declared.KeySpec.{KeySpec}

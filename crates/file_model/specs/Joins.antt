@@ -7,7 +7,7 @@ use Rattle.std.specs.declared.cmp.Ordering.{Ordering}
 use Rattle.std.specs.declared.cmp.Ordering.TheVariants.{Less, Equal, Greater}
 use Rattle.std.specs.Ordering.{nat_cmp, ordering_then, is_eq}
 use Rattle.std.specs.Cmp.Lexicographic.{slice_cmp}
-use Rattle.field_values.specs.FieldTypes.{width}
+use Rattle.record_fmt.specs.FieldTypes.{width}
 use Rattle.key_spec.specs.declared.KeyPart.{KeyPart}
 use Rattle.key_spec.specs.declared.KeyPart.TheVariants.{Field, Absent}
 use Rattle.key_spec.specs.declared.Ties.{Ties}

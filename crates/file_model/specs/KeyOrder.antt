@@ -6,11 +6,11 @@ use Rattle.std.specs.declared.cmp.Ordering.{Ordering}
 use Rattle.std.specs.declared.cmp.Ordering.TheVariants.{Less, Equal, Greater}
 use Rattle.std.specs.Ordering.{nat_cmp, ordering_reverse, is_eq}
 use Rattle.std.specs.Cmp.Lexicographic.{slice_cmp}
-use Rattle.field_types.specs.declared.values.Value.{Value}
-use Rattle.field_types.specs.declared.values.Value.TheVariants.{Chars, Number}
-use Rattle.field_values.specs.FieldTypes.{width}
-use Rattle.field_values.specs.FieldBytes.{held, as_held}
-use Rattle.field_values.specs.FirstBad.{part}
+use Rattle.decimal_order.below.field_types.specs.declared.values.Value.{Value}
+use Rattle.decimal_order.below.field_types.specs.declared.values.Value.TheVariants.{Chars, Number}
+use Rattle.record_fmt.specs.FieldTypes.{width}
+use Rattle.record_fmt.specs.FieldBytes.{held, as_held}
+use Rattle.record_fmt.specs.FirstBad.{part}
 use Rattle.decimal_order.specs.DecimalOrder.{compare_numbers}
 use Rattle.key_spec.specs.declared.KeyPart.{KeyPart}
 use Rattle.key_spec.specs.declared.KeyPart.TheVariants.{Field, Absent}

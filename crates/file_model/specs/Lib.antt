@@ -6,3 +6,5 @@ pub mod Paths
 pub mod Joins
 pub mod Positions
 pub mod FilePaths
+pub use Rattle.record_fmt.specs.Layout
+pub use Rattle.record_fmt.specs.Records

@@ -6,9 +6,9 @@ use Rattle.std.specs.declared.cmp.Ordering.{Ordering}
 use Rattle.std.specs.declared.cmp.Ordering.TheVariants.{Less, Greater}
 use Rattle.std.specs.Ordering.{nat_cmp, is_lt, is_le, is_gt, is_ge, is_eq}
 use Rattle.std.specs.Cmp.Lexicographic.{slice_cmp}
-use Rattle.field_types.specs.declared.values.Value.{Value}
-use Rattle.field_types.specs.declared.values.Value.TheVariants.{Chars, Number}
-use Rattle.field_values.specs.FieldBytes.{filled}
+use Rattle.decimal_order.below.field_types.specs.declared.values.Value.{Value}
+use Rattle.decimal_order.below.field_types.specs.declared.values.Value.TheVariants.{Chars, Number}
+use Rattle.record_fmt.specs.FieldBytes.{filled}
 use Rattle.decimal_order.specs.DecimalOrder.{compare_numbers}
 use Rattle.file_model.specs.declared.rules.Relation.{Relation}
 use Rattle.file_model.specs.declared.rules.Relation.TheVariants.{Equals, Differs, Below, AtMost, Above, AtLeast}

@@ -2,16 +2,16 @@
 -- (DDS for Physical and Logical Files: "RENAME", "CONCAT", "SST", "Data type" of a logical field, "DFT". That a value
 -- is judged by the logical field first and then by the field under it is this project's own.)
 use Rattle.std.specs.Prelude.{ℕ, ◌+◌, ◌==◌, List, [], ◌∷◌, ◌++◌, length, map, take, drop, flat_map, Option, Some, None, Result, Ok, Err, if◌then◌else◌}
-use Rattle.field_types.specs.declared.kinds.FieldType.{FieldType}
-use Rattle.field_types.specs.declared.kinds.Kind.TheVariants.{Char}
-use Rattle.field_types.specs.declared.values.Value.{Value}
-use Rattle.field_types.specs.declared.faults.ValueFault.{ValueFault}
-use Rattle.field_types.specs.declared.faults.ValueFault.TheVariants.{ReadOnlyField}
-use Rattle.field_types.specs.declared.faults.RecordFault.{RecordFault}
-use Rattle.field_types.specs.declared.faults.RecordFault.TheVariants.{Count, BadField}
-use Rattle.field_values.specs.FieldTypes.{width}
-use Rattle.field_values.specs.FieldBytes.{held, written, fault_of, filled}
-use Rattle.field_values.specs.FirstBad.{part}
+use Rattle.decimal_order.below.field_types.specs.declared.kinds.FieldType.{FieldType}
+use Rattle.decimal_order.below.field_types.specs.declared.kinds.Kind.TheVariants.{Char}
+use Rattle.decimal_order.below.field_types.specs.declared.values.Value.{Value}
+use Rattle.decimal_order.below.field_types.specs.declared.faults.ValueFault.{ValueFault}
+use Rattle.decimal_order.below.field_types.specs.declared.faults.ValueFault.TheVariants.{ReadOnlyField}
+use Rattle.decimal_order.below.field_types.specs.declared.faults.RecordFault.{RecordFault}
+use Rattle.decimal_order.below.field_types.specs.declared.faults.RecordFault.TheVariants.{Count, BadField}
+use Rattle.record_fmt.specs.FieldTypes.{width}
+use Rattle.record_fmt.specs.FieldBytes.{held, written, fault_of, filled}
+use Rattle.record_fmt.specs.FirstBad.{part}
 use Rattle.record_fmt.specs.declared.formats.Field.{Field}
 use Rattle.file_model.specs.declared.views.Piece.{Piece}
 use Rattle.file_model.specs.declared.views.FieldSource.{FieldSource}

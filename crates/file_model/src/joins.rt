@@ -1,8 +1,8 @@
 //! What a join file is made of. `specs/Joins.antt` has its rows.
 use crate::paths::PathSpec;
 use crate::views::ViewField;
-use field_types::lists::ListOf;
-use field_types::texts::Image;
+use decimal_order::field_types::lists::ListOf;
+use decimal_order::field_types::texts::Image;
 use key_spec::KeyPart;
 
 /// A pair of fields with equal values (JFLD).

@@ -8,3 +8,5 @@ pub mod laws;
 pub mod paths;
 pub mod rules;
 pub mod views;
+
+pub use record_fmt;

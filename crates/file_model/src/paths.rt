@@ -1,7 +1,7 @@
 //! What an access path is made of. `specs/Paths.antt` has its entries.
 use crate::rules::Rules;
 use crate::views::ViewField;
-use field_types::lists::ListOf;
+use decimal_order::field_types::lists::ListOf;
 use key_spec::{KeyParts, Ties};
 
 /// One format of an access path: its member, and which records it has there under which keys.

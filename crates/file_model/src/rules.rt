@@ -1,7 +1,7 @@
 //! Select and omit statements. `specs/Selection.antt` has which records they select.
 use crate::views::ViewField;
-use field_types::lists::ListOf;
-use field_types::values::Value;
+use decimal_order::field_types::lists::ListOf;
+use decimal_order::field_types::values::Value;
 
 /// The relations of COMP. NL is `AtLeast`, and NG is `AtMost`.
 #[derive(Clone, Copy, PartialEq)]

@@ -1,6 +1,6 @@
 //! The fields of a logical file, by what they show of the record of its base file. `specs/Views.antt` has the images.
-use field_types::kinds::FieldType;
-use field_types::lists::ListOf;
+use decimal_order::field_types::kinds::FieldType;
+use decimal_order::field_types::lists::ListOf;
 
 /// Some bytes of a record.
 #[derive(Clone, Copy, PartialEq)]

@@ -7,7 +7,7 @@ use Rattle.entry_codec.specs.declared.kinds.Images.{Images}
 use Rattle.dds_logical.specs.declared.views.LogicalSpec.{LogicalSpec}
 use Rattle.dds_logical.specs.declared.views.LogicalSpec.TheVariants.{Simple, Multi, Join}
 use Rattle.logical_model.specs.Bases.{FileSpec, PhysicalFile, LogicalFile, base_members}
-use Rattle.file_catalogue.specs.Bodies.{logical_in}
+use Rattle.library_parts.specs.Bodies.{logical_in}
 use Rattle.lawful_states.specs.Owners.{has_number}
 use Rattle.lawful_states.proofs.StatusLemmas.{has_number-cons}
 use Rattle.library_model.specs.declared.limits.TheConstants.{MOST_OPENS}

@@ -17,11 +17,11 @@ use dds_physical::PhysicalError;
 use entry_codec::{Draft, EntryKind, FileKind};
 use field_types::names::Name;
 use field_types::texts::SourceText;
-use file_catalogue::{Described, File};
 use library_model::limits::{LAST_MEMBER, MOST_FILES};
 use library_model::replies::{LimitKind, Reply};
 use library_model::requests::CreatePhysicalFile;
 use library_model::sources::Sources;
+use library_parts::file_catalogue::{Described, File};
 use library_parts::{Author, Contents, Stop, may_deposit, no_such_name, with_room};
 use std::alloc::AllocError;
 

@@ -10,9 +10,9 @@ ghost use Rattle.library_parts.specs.PathChanges.{ArePathsOfView};
 ghost use Rattle.file_requests.specs.Effects.{Deposits};
 
 use entry_codec::{Draft, EntryKind};
-use file_catalogue::File;
 use library_model::replies::Reply;
 use library_model::requests::DeleteFile;
+use library_parts::file_catalogue::File;
 use library_parts::{Author, Contents, Stop, may_deposit, with_room};
 
 /// Deletes a file, a physical one with its members.

@@ -12,9 +12,9 @@ ghost use Rattle.file_requests.specs.Records.{journaling_ended, journaling_start
 use crate::member_commands::plan_member;
 use crate::records::{drafts_of_start, record_count};
 use entry_codec::{Draft, EntryKind, Images};
-use file_catalogue::MemberStatus;
 use library_model::replies::Reply;
 use library_model::requests::{FileMember, StartJournaling};
+use library_parts::file_catalogue::MemberStatus;
 use library_parts::{Author, Contents, Stop, deposit_all, reserve_all, with_room};
 
 // ---- STRJRNPF

@@ -21,10 +21,10 @@ ghost use Rattle.file_requests.specs.Members.{kind_of, renumbering_of, slots_aft
 
 use entry_codec::{Draft, EntryKind};
 use field_types::names::Name;
-use file_catalogue::{File, MemberStatus};
 use library_model::limits::LAST_MEMBER;
 use library_model::replies::{LimitKind, Reply};
 use library_model::requests::FileMember;
+use library_parts::file_catalogue::{File, MemberStatus};
 use library_parts::{
     Author, Contents, MemberFound, Stop, deposit_all, may_deposit, reserve_all, with_room,
 };

@@ -8,7 +8,7 @@ use Rattle.library_model.specs.declared.sources.NamedSource.{NamedSource}
 use Rattle.library_steps.specs.State.{State}
 use Rattle.library_steps.specs.History.{Outcome, Standing, Failed, Runs}
 use Rattle.joint_state.specs.Sound.{IsSound, IsKept}
-use Rattle.sound_histories.proofs.HistoryLemmas.{AnswersStaySound}
+use Rattle.replayed_histories.proofs.SoundHistoriesHistoryLemmas.{AnswersStaySound}
 use Rattle.replayed_histories.specs.Replayed.{AreReplaysKept}
 use Rattle.replayed_histories.specs.Unsaved.{AsksNoCheckpoint, StaysCheckpoint}
 use Rattle.journal_fronts.specs.Fronts.{entries_at, HasSwitched, Switches}

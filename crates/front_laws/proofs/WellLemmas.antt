@@ -17,7 +17,7 @@ use Rattle.library_steps.specs.History.{is_running, Outcome, Standing, Failed, C
 use Rattle.joint_state.specs.Sound.{IsSound, Does, IsKept, after}
 use Rattle.restart_model.specs.Libraries.{journal_with}
 use Rattle.restart_model.specs.Sources.{descriptions}
-use Rattle.sound_histories.proofs.HistoryLemmas.{AnswersStaySound}
+use Rattle.replayed_histories.proofs.SoundHistoriesHistoryLemmas.{AnswersStaySound}
 use Rattle.replayed_histories.specs.Replayed.{AreReplaysKept, IsLeftBy, IsReplayed}
 use Rattle.replayed_histories.specs.Unsaved.{AsksNoCheckpoint, StaysCheckpoint, saves}
 use Rattle.replayed_histories.proofs.ListLemmas.{drop-none}

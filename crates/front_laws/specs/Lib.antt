@@ -1,1 +1,3 @@
 pub mod Opens
+pub use Rattle.replayed_histories.specs.Replayed
+pub use Rattle.replayed_histories.specs.Unsaved

@@ -18,8 +18,8 @@ use Rattle.library_model.specs.declared.sources.NamedSource.{NamedSource}
 use Rattle.library_steps.specs.State.{State}
 use Rattle.library_steps.specs.History.{Outcome, Standing, Runs}
 use Rattle.joint_state.specs.Sound.{IsSound}
-use Rattle.replayed_histories.specs.Replayed.{IsReplayed}
-use Rattle.replayed_histories.specs.Unsaved.{AsksNoCheckpoint, saves}
+use Rattle.front_laws.specs.Replayed.{IsReplayed}
+use Rattle.front_laws.specs.Unsaved.{AsksNoCheckpoint, saves}
 use Rattle.front_laws.specs.Opens.{FrontsCanBeOpened}
 use Rattle.journal_fronts.specs.Fronts.{entries_at, IsAnswered, IsFront}
 use Rattle.input_scripts.specs.Askable.{is_askable_script}

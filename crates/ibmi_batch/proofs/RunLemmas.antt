@@ -10,8 +10,8 @@ use Rattle.library_model.specs.declared.calls.Call.{Call}
 use Rattle.library_steps.specs.State.{State, begun}
 use Rattle.library_steps.specs.History.{Outcome, Standing, Failed}
 use Rattle.joint_state.specs.Sound.{IsSound}
-use Rattle.replayed_histories.specs.Replayed.{IsReplayed}
-use Rattle.replayed_histories.specs.Unsaved.{AsksNoCheckpoint}
+use Rattle.front_laws.specs.Replayed.{IsReplayed}
+use Rattle.front_laws.specs.Unsaved.{AsksNoCheckpoint}
 use Rattle.front_laws.specs.Opens.{FrontsCanBeOpened}
 use Rattle.kept_library.specs.Parts.{LibraryOver}
 use Rattle.kept_library.specs.Stands.{IsAt}

@@ -5,7 +5,7 @@ use Rattle.store_model.specs.Disk.{Areas, Disk, Leaves, May}
 use Rattle.text_lines.specs.Lines.{lines_of}
 use Rattle.entry_codec.specs.declared.entries.Entry.{Entry}
 use Rattle.receiver_chain.specs.Others.{LeavesRoots}
-use Rattle.deposited_entries.specs.Deposits.{AreShort}
+use Rattle.journal_fronts.specs.Deposits.{AreShort}
 use Rattle.library_steps.specs.State.{State}
 use Rattle.library_steps.specs.History.{Outcome, Standing, Runs}
 use Rattle.journal_fronts.specs.Fronts.{IsAnswered, IsFront}

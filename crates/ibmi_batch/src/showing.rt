@@ -8,7 +8,7 @@ use crate::opening::status_of;
 use crate::status::Status;
 use display::library_text::display;
 use kept_library::KeptLibrary;
-use library_parts::Contents;
+use kept_library::library_parts::Contents;
 use opened_library::open_library;
 use std::alloc::{AllocError, Global};
 use store_model::{Sink, Store, write_all};

@@ -10,7 +10,7 @@ use Rattle.library_model.specs.declared.calls.Call.{Call}
 use Rattle.library_model.specs.declared.sources.NamedSource.{NamedSource}
 use Rattle.library_steps.specs.State.{State, begun}
 use Rattle.library_steps.specs.History.{Outcome}
-use Rattle.kept_library.specs.Parts.{LibraryOver}
+use Rattle.library_core.specs.Parts.{LibraryOver}
 use Rattle.journal_fronts.specs.Fronts.{entries_at, IsAnswered, IsWhole, IsFront}
 use Rattle.job_runner.specs.Moments.{IsAnsweredBy, IsLeft, LeavesForced, Leads, StandsForced, HasRun}
 use Rattle.job_runner.specs.Places.{BeginsJobs}

@@ -4,11 +4,11 @@ use Rattle.std.specs.List.{list_all}
 use Rattle.library_model.specs.declared.calls.Call.{Call}
 use Rattle.library_model.specs.declared.replies.Reply.{Reply}
 use Rattle.library_model.specs.declared.requests.Request.{Request}
-use Rattle.kept_library.specs.Parts.{LibraryOver}
+use Rattle.library_core.specs.Parts.{LibraryOver}
 use Rattle.library_steps.specs.State.{State, JobState, job_at, new_job}
 use Rattle.library_steps.specs.History.{is_running}
 use Rattle.library_model.specs.Ending.{is_end_job}
-use Rattle.deposited_entries.specs.Deposits.{AreShort}
+use Rattle.journal_fronts.specs.Deposits.{AreShort}
 use Rattle.joint_state.specs.Sound.{IsSound}
 use Rattle.library_model.specs.declared.limits.TheConstants.{MOST_JOBS}
 use Rattle.input_scripts.specs.declared.Scripts.{Scripts}

@@ -4,8 +4,8 @@ use Rattle.store_model.specs.Disk.{Disk}
 use Rattle.store_model.specs.Faults.{Rose}
 use Rattle.library_model.specs.declared.calls.Call.{Call}
 use Rattle.library_steps.specs.State.{State}
-use Rattle.kept_library.specs.Parts.{LibraryOver}
-use Rattle.kept_library.specs.Stands.{Stands}
+use Rattle.library_core.specs.Parts.{LibraryOver}
+use Rattle.library_core.specs.Stands.{Stands}
 use Rattle.input_scripts.specs.declared.Scripts.{Scripts}
 use Rattle.job_language.specs.declared.progress.TheConstants.{MOST_STATEMENTS}
 use Rattle.job_runner.specs.Asked.{AreAsked}

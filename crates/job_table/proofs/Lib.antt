@@ -1,3 +1,4 @@
 pub mod TableLemmas
 pub mod OpenLemmas
 pub mod UserLemmas
+pub use Rattle.join_position.proofs.FindLemmas

@@ -13,28 +13,28 @@ use Rattle.std.proofs.lemmas.List.Quantifiers.{all_pairs_push}
 use Rattle.std.proofs.lemmas.Map.Entries.{All-lookup}
 use Rattle.std.proofs.lemmas.Map.Made.{lookup-map_values}
 use Rattle.library_model.specs.Named.{Named, named, same_name}
-use Rattle.library_steps.specs.State.{OpenState}
-use Rattle.library_steps.specs.Reads.{as_rows, positioned, has_read, entry_found, row_found}
-use Rattle.library_steps.specs.ChangeRecord.{is_current, without_current}
+use Rattle.lawful_states.specs.State.{OpenState}
+use Rattle.lawful_states.specs.Reads.{as_rows, positioned, has_read, entry_found, row_found}
+use Rattle.lawful_states.specs.ChangeRecord.{is_current, without_current}
 use Rattle.file_model.specs.KeyOrder.{merged_parts}
 use Rattle.dds_logical.specs.declared.join_views.JoinView.{JoinView}
 use Rattle.file_model.specs.Joins.{RowPlace}
 use Rattle.file_model.specs.Paths.{PathEntry}
 use Rattle.file_model.specs.Positions.{Position}
 use Rattle.file_cursor.specs.declared.places.Hit.{Hit}
-use Rattle.open_position.specs.declared.position.StandAt.{StandAt}
-use Rattle.open_position.specs.declared.position.StandAt.TheVariants as places
-use Rattle.open_position.specs.declared.position.Side.{Side}
-use Rattle.open_position.specs.declared.position.Side.TheVariants as sides
+use Rattle.join_position.below.open_position.specs.declared.position.StandAt.{StandAt}
+use Rattle.join_position.below.open_position.specs.declared.position.StandAt.TheVariants as places
+use Rattle.join_position.below.open_position.specs.declared.position.Side.{Side}
+use Rattle.join_position.below.open_position.specs.declared.position.Side.TheVariants as sides
 use Rattle.join_position.specs.RowStand as rows
-use Rattle.open_position.specs.Reads.{stood, entry_hit}
+use Rattle.join_position.specs.Reads.{stood, entry_hit}
 use Rattle.lock_table.specs.declared.levels.Call.{Call}
 use Rattle.key_spec.specs.declared.KeyPart.{KeyPart}
 use Rattle.job_table.specs.declared.opens.OpenChange.{OpenChange}
 use Rattle.job_table.specs.declared.opens.OpenChange.TheVariants.{Positioned, HasRead, HasReadRow, WithoutCurrent, WithoutRecord, Committed, RolledBack}
 use Rattle.commit_level.specs.declared.Level.{Level}
 use Rattle.library_model.specs.declared.requests.OpenFile.{OpenFile}
-use Rattle.library_steps.specs.Opens.{new_open, with_open, without_open}
+use Rattle.lawful_states.specs.Opens.{new_open, with_open, without_open}
 use Rattle.job_table.specs.Changes.{RoomyCycle}
 use Rattle.job_table.specs.Table.{RoomyJob, job_state}
 use Rattle.job_table.specs.Opens.{JoinOrder, OpenOrder, KeptOpen, AreKept, HasOneNumber, AllOfNumber, SameOpen, state_in, order_in, states_of, orders_of}

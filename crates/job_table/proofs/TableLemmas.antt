@@ -8,14 +8,14 @@ use Rattle.std.proofs.lemmas.List.{length-map, map-append, map-set, get_or-map a
 use Rattle.std.proofs.lemmas.List.Elements.{All-push}
 use Rattle.std.proofs.lemmas.List.Sums.{sum_by-append, sum_by-set, sum_by-cons, get_or-le-sum_by}
 use Rattle.std.proofs.lemmas.Option.{slice_get-get_or}
-use Rattle.library_steps.specs.declared.limits.TheConstants.{MOST_GROUP_BYTES}
+use Rattle.lawful_states.below.library_steps.specs.declared.limits.TheConstants.{MOST_GROUP_BYTES}
 use Rattle.journal_model.specs.Rollback.{MemberChange}
 use Rattle.path_set.specs.declared.moves.PathMove.{PathMove}
 use Rattle.library_model.specs.Named.{Named}
-use Rattle.library_steps.specs.State.{JobState, CycleState, OpenState, job_at, job_changed, or_new, new_job, with_opens}
-use Rattle.library_steps.specs.History.{is_running}
-use Rattle.library_steps.specs.Uses.{changes_in}
-use Rattle.library_steps.specs.SlotChange.{change_bytes, noted, with_cycle}
+use Rattle.lawful_states.specs.State.{JobState, CycleState, OpenState, job_at, job_changed, or_new, new_job, with_opens}
+use Rattle.lawful_states.specs.History.{is_running}
+use Rattle.lawful_states.specs.Uses.{changes_in}
+use Rattle.lawful_states.specs.SlotChange.{change_bytes, noted, with_cycle}
 use Rattle.lawful_states.specs.Jobs.{cycle_from}
 use Rattle.job_table.specs.Changes.{bytes_of, HasRoom}
 use Rattle.job_table.specs.Opens.{OpenOrder, SameOpen}

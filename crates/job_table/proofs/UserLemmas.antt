@@ -8,9 +8,9 @@ use Rattle.lock_table.specs.declared.lock.Lock.{Lock}
 use Rattle.lock_table.specs.Lock.{is_boundary_in}
 use Rattle.lock_table.specs.Table.{least_job}
 use Rattle.library_model.specs.Named.{Named}
-use Rattle.library_steps.specs.State.{MemberStatus, JobState}
-use Rattle.library_steps.specs.Checkpoint.{lesser}
-use Rattle.library_steps.specs.Uses.{first_job, has_boundary_lock, has_changed, has_open_of, uses}
+use Rattle.lawful_states.specs.State.{MemberStatus, JobState}
+use Rattle.lawful_states.specs.Checkpoint.{lesser}
+use Rattle.lawful_states.specs.Uses.{first_job, has_boundary_lock, has_changed, has_open_of, uses}
 use Rattle.lawful_states.specs.Jobs.{HasBegun, AreOfJobs}
 use Rattle.job_table.specs.Users.{has_in_use, first_changer, first_opener, first_user, least_of_members}
 

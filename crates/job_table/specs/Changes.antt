@@ -6,9 +6,9 @@ use Rattle.std.specs.Option.{option_map}
 use Rattle.member_slots.specs.declared.slot.Slot.{Slot}
 use Rattle.journal_model.specs.Rollback.{MemberChange}
 use Rattle.path_set.specs.declared.moves.PathMove.{PathMove}
-use Rattle.library_steps.specs.declared.limits.TheConstants.{MOST_GROUP_BYTES}
-use Rattle.library_steps.specs.State.{CycleState}
-use Rattle.library_steps.specs.SlotChange.{change_bytes}
+use Rattle.lawful_states.below.library_steps.specs.declared.limits.TheConstants.{MOST_GROUP_BYTES}
+use Rattle.lawful_states.specs.State.{CycleState}
+use Rattle.lawful_states.specs.SlotChange.{change_bytes}
 
 -- a change as it is kept: with the moves that take it back in all paths
 pub record KeptUndo : Type 0 where

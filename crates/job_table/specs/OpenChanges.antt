@@ -9,15 +9,15 @@ use Rattle.dds_logical.specs.declared.join_views.JoinView.{JoinView}
 use Rattle.file_cursor.specs.CursorPosition.{entry_of}
 use Rattle.join_position.specs.RowStand as rows
 use Rattle.join_position.specs.RowReads.{CanBeKept, place_of}
-use Rattle.open_position.specs.declared.position.Side.{Side}
-use Rattle.open_position.specs.declared.position.StandAt.{StandAt}
-use Rattle.open_position.specs.OpenStand.{IsEntryIn}
-use Rattle.open_position.specs.Reads.{stood, IsStandAt, entry_hit}
+use Rattle.join_position.below.open_position.specs.declared.position.Side.{Side}
+use Rattle.join_position.below.open_position.specs.declared.position.StandAt.{StandAt}
+use Rattle.join_position.specs.OpenStand.{IsEntryIn}
+use Rattle.join_position.specs.Reads.{stood, IsStandAt, entry_hit}
 use Rattle.library_model.specs.Named.{Named}
-use Rattle.library_steps.specs.State.{OpenState, JobState}
-use Rattle.library_steps.specs.Reads.{positioned, has_read, entry_found, row_found}
-use Rattle.library_steps.specs.ChangeRecord.{without_current, without_record}
-use Rattle.library_steps.specs.Commitment.{committed_open, rolled_back_open}
+use Rattle.lawful_states.specs.State.{OpenState, JobState}
+use Rattle.lawful_states.specs.Reads.{positioned, has_read, entry_found, row_found}
+use Rattle.lawful_states.specs.ChangeRecord.{without_current, without_record}
+use Rattle.lawful_states.specs.Commitment.{committed_open, rolled_back_open}
 use Rattle.job_table.specs.declared.opens.OpenChange.{OpenChange}
 use Rattle.job_table.specs.declared.opens.OpenChange.TheVariants.{Positioned, HasRead, HasReadRow, WithoutCurrent, WithoutRecord, Committed, RolledBack}
 use Rattle.job_table.specs.declared.opens.RowRead.{RowRead}

@@ -4,10 +4,10 @@ use Rattle.std.specs.List.{list_any}
 use Rattle.key_spec.specs.declared.KeyPart.{KeyPart}
 use Rattle.file_model.specs.Joins.{RowPlace}
 use Rattle.file_model.specs.Positions.{Position, Start}
-use Rattle.open_position.specs.OpenStand.{OpenStand}
+use Rattle.join_position.specs.OpenStand.{OpenStand}
 use Rattle.library_model.specs.declared.limits.TheConstants.{MOST_OPENS}
 use Rattle.library_model.specs.Named.{Named, same_name}
-use Rattle.library_steps.specs.State.{OpenState}
+use Rattle.lawful_states.specs.State.{OpenState}
 use Rattle.job_table.specs.declared.reads.OpenReads.{OpenReads}
 use Rattle.job_table.specs.declared.reads.OpenRows.{OpenRows}
 

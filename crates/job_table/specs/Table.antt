@@ -5,9 +5,9 @@ use Rattle.std.specs.List.{sum_by, AllZip}
 use Rattle.commit_level.specs.declared.Level.{Level}
 use Rattle.library_model.specs.Named.{Named}
 use Rattle.path_set.specs.declared.moves.PathMove.{PathMove}
-use Rattle.library_steps.specs.State.{OpenState, CycleState, JobState, job_at, or_new}
-use Rattle.library_steps.specs.Uses.{changes_in}
-use Rattle.library_steps.specs.SlotChange.{change_bytes}
+use Rattle.lawful_states.specs.State.{OpenState, CycleState, JobState, job_at, or_new}
+use Rattle.lawful_states.specs.Uses.{changes_in}
+use Rattle.lawful_states.specs.SlotChange.{change_bytes}
 use Rattle.job_table.specs.Changes.{HasRoom}
 use Rattle.job_table.specs.Opens.{OpenOrder, SameOpen}
 

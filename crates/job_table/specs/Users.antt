@@ -3,9 +3,9 @@ use Rattle.std.specs.Prelude.{ℕ, ◌||◌, Bool, Option, None, List, [], ◌�
 use Rattle.std.specs.List.{filter_map}
 use Rattle.std.specs.Option.{option_map}
 use Rattle.library_model.specs.Named.{Named}
-use Rattle.library_steps.specs.State.{MemberStatus, JobState}
-use Rattle.library_steps.specs.Checkpoint.{lesser}
-use Rattle.library_steps.specs.Uses.{first_job, has_open_of, has_open_over, has_changed}
+use Rattle.lawful_states.specs.State.{MemberStatus, JobState}
+use Rattle.lawful_states.specs.Checkpoint.{lesser}
+use Rattle.lawful_states.specs.Uses.{first_job, has_open_of, has_open_over, has_changed}
 
 -- by its opens or by its open commit cycle
 abbrev pub has_in_use : ℕ → (number : ℕ) → JobState → Bool

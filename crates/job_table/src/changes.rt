@@ -2,8 +2,8 @@
 ghost use Rattle.std.specs.Prelude.{◌≡◌, ◌+◌, ◌≤◌, Some, [], ◌∷◌, length, slice_get, option_map, option_copied, OnOk, MatchOption};
 ghost use Rattle.std.specs.List.{list_any};
 ghost use Rattle.journal_model.specs.Replay.{before_of};
-ghost use Rattle.library_steps.specs.declared.limits.TheConstants.{MOST_GROUP_BYTES};
-ghost use Rattle.library_steps.specs.SlotChange.{image_bytes, change_bytes};
+ghost use Rattle.lawful_states.below.library_steps.specs.declared.limits.TheConstants.{MOST_GROUP_BYTES};
+ghost use Rattle.lawful_states.specs.SlotChange.{image_bytes, change_bytes};
 ghost use Rattle.job_table.specs.Changes.{HasRoom, bytes_of, change_of, is_of_member, is_of_record};
 
 use member_slots::slot::Slot;

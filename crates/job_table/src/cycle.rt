@@ -1,8 +1,8 @@
 //! The open commit cycle of a job, and the room for its changes.
 ghost use Rattle.std.specs.Prelude.{◌≡◌, ◌+◌, ◌≤◌, Some, None, [], ◌∷◌, OnOk, option_map};
-ghost use Rattle.library_steps.specs.declared.limits.TheConstants.{MOST_GROUP_BYTES};
-ghost use Rattle.library_steps.specs.Uses.{changes_in};
-ghost use Rattle.library_steps.specs.SlotChange.{change_bytes, noted};
+ghost use Rattle.lawful_states.below.library_steps.specs.declared.limits.TheConstants.{MOST_GROUP_BYTES};
+ghost use Rattle.lawful_states.specs.Uses.{changes_in};
+ghost use Rattle.lawful_states.specs.SlotChange.{change_bytes, noted};
 ghost use Rattle.job_table.specs.Changes.{HasRoom, bytes_of};
 ghost use Rattle.lawful_states.specs.Jobs.{cycle_from};
 

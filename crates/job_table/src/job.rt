@@ -1,13 +1,13 @@
 //! A job that has begun.
 ghost use Rattle.std.specs.Prelude.{◌≡◌, ◌+◌, ◌<◌, ◌≤◌, [], ◌∷◌, ◌++◌, not, length, filter, All, IfOk, IfSome, OnOk, option_map, option_copied};
 ghost use Rattle.library_model.specs.declared.limits.TheConstants.{MOST_OPENS};
-ghost use Rattle.library_steps.specs.declared.limits.TheConstants.{MOST_GROUP_BYTES};
+ghost use Rattle.lawful_states.below.library_steps.specs.declared.limits.TheConstants.{MOST_GROUP_BYTES};
 ghost use Rattle.library_model.specs.Named.{named, same_name};
-ghost use Rattle.library_steps.specs.State.{new_job};
-ghost use Rattle.library_steps.specs.Opens.{with_open, without_open};
-ghost use Rattle.library_steps.specs.Uses.{changes_in};
-ghost use Rattle.library_steps.specs.SlotChange.{change_bytes, noted, with_cycle};
-ghost use Rattle.library_steps.specs.Commitment.{with_level, without_cycle};
+ghost use Rattle.lawful_states.specs.State.{new_job};
+ghost use Rattle.lawful_states.specs.Opens.{with_open, without_open};
+ghost use Rattle.lawful_states.specs.Uses.{changes_in};
+ghost use Rattle.lawful_states.specs.SlotChange.{change_bytes, noted, with_cycle};
+ghost use Rattle.lawful_states.specs.Commitment.{with_level, without_cycle};
 ghost use Rattle.job_table.specs.Changes.{HasRoom, bytes_of};
 ghost use Rattle.lawful_states.specs.Jobs.{cycle_from};
 ghost use Rattle.job_table.specs.OpenChanges.{CanMake, job_after};
@@ -41,7 +41,7 @@ pub struct Job {
 
 impl Model for Job {
     ghost use Rattle.std.specs.Prelude.{◌≡◌, length};
-    ghost use Rattle.library_steps.specs.Uses.{changes_in};
+    ghost use Rattle.lawful_states.specs.Uses.{changes_in};
     ghost use Rattle.job_table.specs.Opens.{states_of, orders_of, AreKept};
     ghost use Rattle.job_table.specs.Table.{RoomyJob, job_state};
 

@@ -3,9 +3,9 @@ ghost use Rattle.std.specs.Prelude.{◌≡◌, ℕ, List, None, [], ◌∷◌, f
 ghost use Rattle.lock_table.specs.Lock.{is_boundary_in};
 ghost use Rattle.lock_table.specs.Table.{least_job};
 ghost use Rattle.library_model.specs.Named.{Named};
-ghost use Rattle.library_steps.specs.State.{Memory, MemberStatus};
-ghost use Rattle.library_steps.specs.Checkpoint.{lesser};
-ghost use Rattle.library_steps.specs.Uses.{changer_of_any, user_of, user_of_any, user_of_logical};
+ghost use Rattle.lawful_states.specs.State.{Memory, MemberStatus};
+ghost use Rattle.lawful_states.specs.Checkpoint.{lesser};
+ghost use Rattle.lawful_states.specs.Uses.{changer_of_any, user_of, user_of_any, user_of_logical};
 ghost use Rattle.lawful_states.specs.Jobs.{AreOfJobs};
 ghost use Rattle.job_table.specs.Users.{first_changer, first_opener, first_user, least_of_members};
 

@@ -13,6 +13,7 @@ mod users;
 
 pub use changes::{Undo, UndoParts, Undos};
 pub use jobs::{Jobs, LAST_OPEN};
+pub use join_position;
 pub use open::{Open, OpenAt, first_of};
 pub use opens::{OpenNumbers, RowRead};
 pub use reads::{OpenReads, OpenRows};

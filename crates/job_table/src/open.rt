@@ -3,11 +3,11 @@ ghost use Rattle.std.specs.Prelude.{◌≡◌, ◌==◌, None, slice_get, unwrap
 ghost use Rattle.std.specs.List.{list_any};
 ghost use Rattle.file_model.specs.Positions.{Start, On};
 ghost use Rattle.file_cursor.specs.CursorPosition.{entry_of};
-ghost use Rattle.open_position.specs.OpenStand.{IsEntryIn};
-ghost use Rattle.library_steps.specs.Opens.{first_of, new_open};
-ghost use Rattle.library_steps.specs.Reads.{at_format, current_after};
-ghost use Rattle.library_steps.specs.ChangeRecord.{without_record};
-ghost use Rattle.library_steps.specs.Commitment.{committed_open, rolled_back_open};
+ghost use Rattle.join_position.specs.OpenStand.{IsEntryIn};
+ghost use Rattle.lawful_states.specs.Opens.{first_of, new_open};
+ghost use Rattle.lawful_states.specs.Reads.{at_format, current_after};
+ghost use Rattle.lawful_states.specs.ChangeRecord.{without_record};
+ghost use Rattle.lawful_states.specs.Commitment.{committed_open, rolled_back_open};
 ghost use Rattle.job_table.specs.OpenChanges.{CanMake, CanStand, IsRowRead, place_by, open_after};
 ghost use Rattle.job_table.specs.Opens.{IsNewReads, order_by, rows_in, join_by};
 
@@ -16,9 +16,9 @@ use crate::reads::{OpenReads, OpenRows};
 use field_types::lists::ListOf;
 use field_types::names::Name;
 use file_cursor::places::Hit;
+use join_position::open_position::position::{OpenPosition, Side, StandAt};
 use library_model::requests::{AccessPath, OpenFile, OpenOption};
 use lock_table::Call;
-use open_position::position::{OpenPosition, Side, StandAt};
 use std::marker::Model;
 
 /// An open of a file.

@@ -9,10 +9,10 @@ ghost use Rattle.job_table.specs.Opens.{state_in, states_of, is_committed_in, ha
 use crate::open::Open;
 use field_types::names::Name;
 use file_cursor::places::Hit;
-use join_rows::rows::{JoinFile, Row};
+use join_position::join_rows::rows::{JoinFile, Row};
+use join_position::open_position::position::{Side, StandAt};
 use library_model::limits::MOST_OPENS;
 use lock_table::Call;
-use open_position::position::{Side, StandAt};
 use std::alloc::{AllocError, Global};
 use std::marker::Model;
 

@@ -1,7 +1,7 @@
 //! How a new open reads.
 use field_types::lists::ListOf;
+use join_position::open_position::position::OpenPosition;
 use join_position::position::JoinPosition;
-use open_position::position::OpenPosition;
 
 /// How the rows of a join file are read.
 #[derive(Drop)]

@@ -1,7 +1,7 @@
 //! Which job is the first that uses a member, and which commit cycle began first.
 ghost use Rattle.std.specs.Prelude.{◌≡◌, ◌≤◌, length, map, option_map};
 ghost use Rattle.std.specs.List.{filter_map};
-ghost use Rattle.library_steps.specs.Checkpoint.{lesser, least_of};
+ghost use Rattle.lawful_states.specs.Checkpoint.{lesser, least_of};
 ghost use Rattle.job_table.specs.Users.{first_user, first_changer, first_opener, cycle_starts};
 
 use crate::job::Job;

@@ -16,7 +16,7 @@ use Rattle.file_model.specs.Joins.{RowPlace, JoinRow, compare_places, rows_of}
 use Rattle.file_model.specs.Positions as model
 use Rattle.file_model.proofs.OrderLemmas.{compare_places-total}
 use Rattle.join_rows.specs.NextRow.{rows_reading, next_row, prior_row}
-use Rattle.key_values.specs.KeyValues.{values_in}
+use Rattle.open_position.specs.KeyValues.{values_in}
 use Rattle.open_position.specs.declared.reads.ReadBy.{ReadBy}
 use Rattle.open_position.specs.declared.reads.ReadBy.TheVariants as asked
 use Rattle.join_position.specs.RowReads.{asked_row, where_row}

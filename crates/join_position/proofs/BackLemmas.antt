@@ -6,14 +6,14 @@ use Rattle.field_types.specs.declared.values.Value.{Value}
 use Rattle.key_spec.specs.declared.KeyPart.{KeyPart}
 use Rattle.key_spec.specs.declared.KeyPart.TheVariants.{Field, Absent}
 use Rattle.file_model.specs.KeyOrder.{key_of, key_value, given_key}
-use Rattle.key_order.specs.KeyBytes.{key_bytes, encoded, encoded_values}
-use Rattle.key_order.specs.KeyFields.{AreBytes}
-use Rattle.key_order.specs.GivenValues.{IsOfBytes, key_fault}
-use Rattle.key_order.proofs.KeyLemmas.{image-fits, given-fits, none-at-fault}
-use Rattle.key_values.specs.KeyValues.{values_in}
-use Rattle.key_values.proofs.AmongLemmas.{among-itself}
-use Rattle.key_values.proofs.ReadLemmas.{values-read, all-of-bytes}
-use Rattle.file_cursor.specs.PositionBytes.{AreGiven}
+use Rattle.access_path.specs.KeyBytes.{key_bytes, encoded, encoded_values}
+use Rattle.access_path.specs.KeyFields.{AreBytes}
+use Rattle.access_path.specs.GivenValues.{IsOfBytes, key_fault}
+use Rattle.access_path.proofs.KeyLemmas.{image-fits, given-fits, none-at-fault}
+use Rattle.open_position.specs.KeyValues.{values_in}
+use Rattle.open_position.proofs.AmongLemmas.{among-itself}
+use Rattle.open_position.proofs.ReadLemmas.{values-read, all-of-bytes}
+use Rattle.join_rows.specs.PositionBytes.{AreGiven}
 use Rattle.join_rows.specs.Places.{sequence_bytes}
 use Rattle.open_position.specs.OpenStand.{AreGivenBytes}
 use Rattle.join_position.specs.Kept.{first_value, sequence_in}

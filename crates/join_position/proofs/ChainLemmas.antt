@@ -20,16 +20,16 @@ use Rattle.file_model.specs.KeyOrder.{KeyValue, compare_with}
 use Rattle.file_model.specs.Joins.{JoinRow, joined_rows, rows_of}
 use Rattle.file_model.specs.Paths.{PathEntry, path}
 use Rattle.file_model.specs.Positions as model
-use Rattle.key_order.specs.KeyBytes.{key_bytes}
-use Rattle.key_order.specs.KeyFields.{Matches}
-use Rattle.key_order.proofs.KeyLemmas.{Matches-itself}
+use Rattle.access_path.specs.KeyBytes.{key_bytes}
+use Rattle.access_path.specs.KeyFields.{Matches}
+use Rattle.access_path.proofs.KeyLemmas.{Matches-itself}
 use Rattle.std.proofs.lemmas.List.Elements.{All-from_recursion}
 use Rattle.access_path.specs.PathBytes.{is_falling, in_bytes}
-use Rattle.file_cursor.specs.CursorPosition.{Past, ByKey}
-use Rattle.file_cursor.specs.Finding.{compare_part, side_of, begins_with}
-use Rattle.file_cursor.specs.PositionBytes.{IsEntryOf, AreGiven}
-use Rattle.file_cursor.proofs.SideLemmas.{side-past}
-use Rattle.file_cursor.proofs.EntryLemmas.{path-entries, begins-same, side-same}
+use Rattle.join_rows.specs.CursorPosition.{Past, ByKey}
+use Rattle.join_rows.specs.Finding.{compare_part, side_of, begins_with}
+use Rattle.join_rows.specs.PositionBytes.{IsEntryOf, AreGiven}
+use Rattle.join_rows.proofs.SideLemmas.{side-past}
+use Rattle.join_rows.proofs.FileCursorEntryLemmas.{path-entries, begins-same, side-same}
 use Rattle.join_rows.specs.NextRow.{rows_reading, next_row, row_of_entry}
 use Rattle.join_rows.specs.Rows.{CanBeRead, parts_in}
 use Rattle.join_position.specs.RowReads.{where_row, first_row}

@@ -19,15 +19,15 @@ use Rattle.file_model.specs.Joins.{Match, RowPlace, JoinRow, row_with, rows_of}
 use Rattle.file_model.specs.Paths.{PathEntry}
 use Rattle.file_model.specs.Positions as model
 use Rattle.file_model.proofs.PathLemmas.{all-append}
-use Rattle.key_order.specs.KeyBytes.{key_bytes}
-use Rattle.key_order.specs.KeyFields.{Matches, key_width}
-use Rattle.key_order.proofs.KeyLemmas.{Matches-itself}
-use Rattle.key_values.specs.KeyValues.{values_in}
+use Rattle.access_path.specs.KeyBytes.{key_bytes}
+use Rattle.access_path.specs.KeyFields.{Matches, key_width}
+use Rattle.access_path.proofs.KeyLemmas.{Matches-itself}
+use Rattle.open_position.specs.KeyValues.{values_in}
 use Rattle.access_path.specs.PathBytes.{parts_of, in_bytes}
-use Rattle.file_cursor.specs.Finding.{compare_part}
-use Rattle.file_cursor.specs.PositionBytes.{IsEntryOf, HasKeysWithin}
-use Rattle.file_cursor.proofs.EntryLemmas.{begins-same}
-use Rattle.file_cursor.proofs.ListLemmas.{reverse-cons, map-reverse, find-map}
+use Rattle.join_rows.specs.Finding.{compare_part}
+use Rattle.join_rows.specs.PositionBytes.{IsEntryOf, HasKeysWithin}
+use Rattle.join_rows.proofs.FileCursorEntryLemmas.{begins-same}
+use Rattle.join_rows.proofs.ListLemmas.{reverse-cons, map-reverse, find-map}
 use Rattle.join_rows.specs.declared.positions.MatchPlace.{MatchPlace}
 use Rattle.join_rows.specs.declared.positions.RowPosition.{RowPosition}
 use Rattle.join_rows.specs.declared.rows.Row.{Row}

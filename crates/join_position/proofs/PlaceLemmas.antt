@@ -10,9 +10,9 @@ use Rattle.file_model.specs.KeyOrder.{key_of, key_value}
 use Rattle.file_model.specs.Positions.{KeyBound}
 use Rattle.access_path.specs.KeptEntries.{entry_with}
 use Rattle.access_path.specs.PathBytes.{parts_of}
-use Rattle.key_order.specs.KeyBytes.{key_bytes}
-use Rattle.key_values.specs.KeyValues.{values_in}
-use Rattle.file_cursor.specs.PositionBytes.{AreGiven}
+use Rattle.access_path.specs.KeyBytes.{key_bytes}
+use Rattle.open_position.specs.KeyValues.{values_in}
+use Rattle.join_rows.specs.PositionBytes.{AreGiven}
 use Rattle.join_rows.specs.declared.positions.MatchPlace.{MatchPlace}
 use Rattle.join_rows.specs.declared.positions.MatchPlace.TheVariants as places
 use Rattle.join_rows.specs.Places.{sequence_bytes}

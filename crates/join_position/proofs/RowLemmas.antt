@@ -17,11 +17,11 @@ use Rattle.file_model.specs.KeyOrder.{key_value}
 use Rattle.file_model.specs.Joins.{Match, NoRecord, RecordAt, Matched, JoinRow, image_in, is_joined, matched, compare_matched, matches_of, or_missing, row_with, joined_rows, rows_of}
 use Rattle.file_model.specs.Paths.{PathEntry, path}
 use Rattle.file_model.proofs.PathLemmas.{weaker, all-filter, all-map, all-append}
-use Rattle.key_order.specs.KeyFields.{AreBytes, HasPosition, key_width}
+use Rattle.access_path.specs.KeyFields.{AreBytes, HasPosition, key_width}
 use Rattle.access_path.specs.PathBytes.{in_bytes}
 use Rattle.access_path.proofs.OrderedLemmas.{all-in_order}
-use Rattle.file_cursor.specs.PositionBytes.{HasKeysWithin}
-use Rattle.file_cursor.proofs.RoomLemmas.{keys-fit}
+use Rattle.join_rows.specs.PositionBytes.{HasKeysWithin}
+use Rattle.join_rows.proofs.RoomLemmas.{keys-fit}
 use Rattle.join_rows.specs.NextRow.{row_of_entry}
 use Rattle.join_rows.specs.Numbers.{image_of}
 use Rattle.join_rows.specs.Reading.{AreReadable}

@@ -9,7 +9,7 @@ use Rattle.file_model.specs.Joins.{Match, RecordAt}
 use Rattle.file_model.specs.Positions.{On}
 use Rattle.join_rows.specs.Numbers.{image_at, matched_number}
 use Rattle.join_rows.specs.declared.rows.Row.{Row}
-use Rattle.key_values.specs.KeyValues.{values_in}
+use Rattle.open_position.specs.KeyValues.{values_in}
 use Rattle.join_position.specs.declared.position.Stand.{Stand}
 use Rattle.join_position.specs.declared.position.Stand.TheVariants as stands
 use Rattle.join_position.specs.RowStand.{JoinStand}

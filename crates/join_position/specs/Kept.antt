@@ -9,10 +9,10 @@ use Rattle.file_model.specs.declared.paths.PathFormat.{PathFormat}
 use Rattle.file_model.specs.KeyOrder.{KeyValue, Missing, key_value}
 use Rattle.file_model.specs.Joins.{Match, NoRecord, RecordAt, RowPlace}
 use Rattle.file_model.specs.Positions.{KeyBound, Position, Start, End, On, Before, Past}
-use Rattle.key_order.specs.declared.widths.TheConstants.{MOST_POSITIONS}
-use Rattle.key_order.specs.KeyBytes.{encoded}
-use Rattle.key_order.specs.KeyFields.{AreBytes, ArePositions, key_width}
-use Rattle.key_values.specs.KeyValues.{values_in}
+use Rattle.access_path.below.key_order.specs.declared.widths.TheConstants.{MOST_POSITIONS}
+use Rattle.access_path.specs.KeyBytes.{encoded}
+use Rattle.access_path.specs.KeyFields.{AreBytes, ArePositions, key_width}
+use Rattle.open_position.specs.KeyValues.{values_in}
 use Rattle.join_rows.specs.declared.positions.MatchPlace.{MatchPlace}
 use Rattle.join_rows.specs.declared.positions.MatchPlace.TheVariants as places
 use Rattle.join_rows.specs.Numbers.{image_at}

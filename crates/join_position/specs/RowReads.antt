@@ -12,10 +12,10 @@ use Rattle.file_model.specs.declared.joins.JoinSpec.{JoinSpec}
 use Rattle.file_model.specs.KeyOrder.{KeyValue, begins_with}
 use Rattle.file_model.specs.Joins.{Match, RowPlace, JoinRow, rows_of}
 use Rattle.file_model.specs.Positions.{Position, Reading, next_from, prior_from, next_equal, prior_equal, chain_key, chain_number}
-use Rattle.file_cursor.specs.Finding.{compare_part}
-use Rattle.file_cursor.specs.PositionBytes.{HasKeysWithin}
-use Rattle.key_order.specs.KeyFields.{AreBytes, HasPosition, key_width}
-use Rattle.key_values.specs.KeyValues.{values_in}
+use Rattle.join_rows.specs.Finding.{compare_part}
+use Rattle.join_rows.specs.PositionBytes.{HasKeysWithin}
+use Rattle.access_path.specs.KeyFields.{AreBytes, HasPosition, key_width}
+use Rattle.open_position.specs.KeyValues.{values_in}
 use Rattle.join_rows.specs.declared.rows.Row.{Row}
 use Rattle.join_rows.specs.NextRow.{next_row, prior_row}
 use Rattle.join_rows.specs.Numbers.{image_at, matched_number}

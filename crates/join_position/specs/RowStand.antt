@@ -5,7 +5,7 @@ use Rattle.key_spec.specs.declared.KeyPart.{KeyPart}
 use Rattle.file_model.specs.KeyOrder.{given_key}
 use Rattle.file_model.specs.Joins.{RowPlace}
 use Rattle.file_model.specs.Positions.{Bound, KeyBound, NumberBound, Position, Start, End, Before, Past}
-use Rattle.key_order.specs.GivenValues.{key_fault}
+use Rattle.access_path.specs.GivenValues.{key_fault}
 use Rattle.open_position.specs.declared.position.Side.{Side}
 use Rattle.open_position.specs.declared.position.Side.TheVariants as sides
 use Rattle.open_position.specs.declared.position.StandAt.{StandAt}

@@ -3,10 +3,10 @@ ghost use Rattle.std.specs.Prelude.{◌≡◌, length, map, IfOk};
 ghost use Rattle.std.specs.Ordering.{is_eq};
 ghost use Rattle.file_model.specs.Joins.{RowPlace, rows_of};
 ghost use Rattle.file_model.specs.Positions as model;
-ghost use Rattle.file_cursor.specs.Finding.{compare_part};
+ghost use Rattle.join_rows.specs.Finding.{compare_part};
 ghost use Rattle.member_slots.specs.Members.{AreMembers};
 ghost use Rattle.join_rows.specs.Rows.{CanBeRead, IsAt, IsFound, parts_in};
-ghost use Rattle.key_values.specs.KeyValues.{values_in};
+ghost use Rattle.open_position.specs.KeyValues.{values_in};
 ghost use Rattle.open_position.specs.OpenStand.{AreGivenBytes};
 ghost use Rattle.join_position.specs.RowReads.{IsAskedOf, asked_row, first_row, where_bytes};
 

@@ -1,16 +1,16 @@
 //! The bytes of values that a request gives for the first positions of a key, and of those that a record has.
 ghost use Rattle.std.specs.Prelude.{◌≡◌, ◌≤◌, None, ◌∷◌, [], length, vec_capacity, All};
 ghost use Rattle.file_model.specs.KeyOrder.{given_key, key_value};
-ghost use Rattle.key_order.specs.declared.widths.TheConstants.{MOST_POSITIONS};
-ghost use Rattle.key_order.specs.KeyFields.{AreBytes, ArePositions, HasPosition, key_width};
-ghost use Rattle.key_order.specs.GivenValues.{IsOfBytes, key_fault};
-ghost use Rattle.key_values.specs.KeyValues.{values_in};
+ghost use Rattle.access_path.below.key_order.specs.declared.widths.TheConstants.{MOST_POSITIONS};
+ghost use Rattle.access_path.specs.KeyFields.{AreBytes, ArePositions, HasPosition, key_width};
+ghost use Rattle.access_path.specs.GivenValues.{IsOfBytes, key_fault};
+ghost use Rattle.open_position.specs.KeyValues.{values_in};
 ghost use Rattle.join_rows.specs.Places.{sequence_bytes};
 ghost use Rattle.open_position.specs.OpenStand.{AreGivenBytes};
 
+use access_path::key_order::encoding::encode_into;
+use access_path::key_order::given::encode_values_into;
 use field_types::values::Value;
-use key_order::encoding::encode_into;
-use key_order::given::encode_values_into;
 use key_spec::KeyPart;
 
 /// The bytes of given values, in place of what `into` holds. It takes no memory.

@@ -6,3 +6,6 @@ mod given;
 pub mod laws;
 mod matches;
 pub mod position;
+
+pub use join_rows;
+pub use open_position;

@@ -1,14 +1,14 @@
 //! What a position keeps of the records of the secondary files.
 ghost use Rattle.std.specs.Prelude.{◌≡◌, ◌≤◌, ◌<◌, Some, None, map, All, IfOk};
-ghost use Rattle.key_order.specs.KeyFields.{AreBytes, HasPosition};
+ghost use Rattle.access_path.specs.KeyFields.{AreBytes, HasPosition};
 ghost use Rattle.join_position.specs.Kept.{IsThere, value_kept, value_placed, record_kept, none_kept, number_kept, numbers_kept};
 ghost use Rattle.join_position.specs.RowReads.{IsNumber, AreNumbers};
 
 use crate::given::write_sequence;
+use access_path::key_order::widths::bound;
 use file_model::joins::Secondary;
 use join_rows::positions::MatchPlace;
 use join_rows::trials::image_at;
-use key_order::widths::bound;
 use key_spec::KeyPart;
 use member_slots::members::Members;
 use std::alloc::{AllocError, Global};

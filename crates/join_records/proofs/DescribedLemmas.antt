@@ -40,8 +40,8 @@ use Rattle.dds_logical.specs.WholeFile.{head_faults, size_faults}
 use Rattle.dds_logical.proofs.CompleteLemmas.{nothing_in, not_wrong}
 use Rattle.dds_logical.proofs.JoinCompleteLemmas.{complete_unless}
 use Rattle.logical_model.specs.Bases.{Bases, base_names}
-use Rattle.logical_laws.specs.Mapped.{AreBasesOf}
-use Rattle.logical_laws.proofs.MappedLemmas.{described-there}
+use Rattle.logical_paths.specs.Mapped.{AreBasesOf}
+use Rattle.logical_paths.proofs.MappedLemmas.{described-there}
 use Rattle.logical_paths.specs.KeyedViews.{IsShownOf, AreLaidOut}
 use Rattle.logical_paths.proofs.DescribedLemmas.{found-right, name-fields}
 use Rattle.logical_paths.proofs.OriginLemmas.{each-filter_map, field-there, flat-nothing, line-shown, own-shown}

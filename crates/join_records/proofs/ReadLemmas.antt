@@ -32,10 +32,10 @@ use Rattle.dds_logical.specs.declared.views.LogicalSpec.TheVariants.{Simple, Joi
 use Rattle.dds_logical.specs.JoinLines.{fields_at}
 use Rattle.logical_model.specs.Bases.{Bases}
 use Rattle.logical_model.specs.FilePaths.{join_of, logical_paths, secondary_of}
-use Rattle.logical_laws.specs.Mapped.{HoldDefaults}
-use Rattle.logical_laws.specs.Found.{HoldsRecord}
-use Rattle.logical_laws.proofs.GivenLemmas.{given-makes}
-use Rattle.physical_paths.specs.KeyedFiles.{IsRecord, IsRecordSlot, HasRecordsOf}
+use Rattle.logical_paths.specs.Mapped.{HoldDefaults}
+use Rattle.logical_paths.specs.Found.{HoldsRecord}
+use Rattle.logical_paths.proofs.GivenLemmas.{given-makes}
+use Rattle.logical_paths.specs.KeyedFiles.{IsRecord, IsRecordSlot, HasRecordsOf}
 use Rattle.logical_paths.specs.Steps.{shown_in_join}
 use Rattle.logical_paths.specs.KeyedViews.{IsShownOf, IsSequenceOf, IsFileOver, IsKeyedJoin}
 use Rattle.logical_paths.proofs.ShownLemmas.{at-lies, shown-value}

@@ -18,14 +18,14 @@ use Rattle.file_model.specs.Paths.{PathEntry, compare_entries, entries_from, ent
 use Rattle.file_model.specs.Selection.{selects}
 use Rattle.file_model.specs.Views.{default_image}
 use Rattle.file_model.proofs.PathLemmas.{all-append, all-map, weaker}
-use Rattle.logical_laws.proofs.ListLemmas.{each-filter, each-flat, each-in_order}
+use Rattle.logical_paths.proofs.ListLemmas.{each-filter, each-flat, each-in_order}
 use Rattle.dds_logical.specs.declared.join_views.JoinedFile.{JoinedFile}
 use Rattle.dds_logical.specs.declared.join_views.JoinView.{JoinView}
 use Rattle.dds_logical.specs.declared.views.LogicalSpec.TheVariants.{Join}
 use Rattle.dds_logical.specs.JoinLines.{fields_at}
 use Rattle.logical_model.specs.Bases.{Bases}
 use Rattle.logical_model.specs.FilePaths.{join_of, primary_path, secondary_of}
-use Rattle.physical_paths.specs.KeyedFiles.{IsRecord, IsRecordSlot, HasRecordsOf}
+use Rattle.logical_paths.specs.KeyedFiles.{IsRecord, IsRecordSlot, HasRecordsOf}
 use Rattle.logical_paths.specs.KeyedViews.{HaveRecords, IsFileOver, IsKeyedJoin}
 use Rattle.join_rows.specs.Numbers.{image_at, image_of}
 use Rattle.join_records.proofs.EntryLemmas.{entry-image}

@@ -8,7 +8,7 @@ use Rattle.dds_logical.specs.declared.views.LogicalSpec.{LogicalSpec}
 use Rattle.dds_logical.specs.declared.views.LogicalSpec.TheVariants.{Simple, Multi, Join}
 use Rattle.logical_model.specs.Bases.{Bases, base_names}
 use Rattle.logical_model.specs.FilePaths.{join_of, secondary_of}
-use Rattle.logical_laws.specs.Mapped.{AreSameBases}
+use Rattle.logical_paths.specs.Mapped.{AreSameBases}
 use Rattle.join_records.specs.Linked.{AreLinked, IsLinkedLogical, IsShownFrom, fields_under}
 
 secondaries-same : (bases other : Bases) (files : List JoinedFile) → AllByRecursion (λ name. bases name ≡ other name) (map (λ joined. joined.file) files)

@@ -10,7 +10,7 @@ use Rattle.dds_logical.specs.declared.views.LogicalSpec.TheVariants.{Join}
 use Rattle.file_model.specs.declared.joins.Secondary.{Secondary}
 use Rattle.file_model.specs.Joins.{secondary_path}
 use Rattle.file_model.specs.Views.{default_image}
-use Rattle.logical_laws.specs.Mapped.{HoldDefaults}
+use Rattle.logical_paths.specs.Mapped.{HoldDefaults}
 use Rattle.logical_model.specs.Bases.{Bases}
 use Rattle.logical_model.specs.FilePaths.{primary_path, secondary_of}
 use Rattle.logical_paths.specs.KeyedViews.{HaveRecords, IsKeyedJoin}

@@ -9,7 +9,7 @@ use Rattle.file_model.specs.Views.{field_value}
 use Rattle.dds_logical.specs.declared.join_views.JoinedField.{JoinedField}
 use Rattle.dds_logical.specs.declared.join_views.JoinView.{JoinView}
 use Rattle.dds_logical.specs.JoinLines.{fields_at}
-use Rattle.physical_paths.specs.KeyedFiles.{IsRecord}
+use Rattle.logical_paths.specs.KeyedFiles.{IsRecord}
 use Rattle.view_rules.specs.Shown.{HasValue}
 use Rattle.join_records.specs.Linked.{AreFieldsOf, IsShownFrom}
 

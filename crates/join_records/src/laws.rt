@@ -14,7 +14,7 @@ ghost use Rattle.file_model.specs.FilePaths.{key_parts};
 ghost use Rattle.file_model.specs.Joins.{JoinRow, RowPlace, compare_places, rows_of};
 ghost use Rattle.logical_model.specs.Bases.{Bases};
 ghost use Rattle.logical_model.specs.FilePaths.{join_of};
-ghost use Rattle.logical_laws.specs.Mapped.{AreBasesOf, AreSameBases};
+ghost use Rattle.logical_paths.specs.Mapped.{AreBasesOf, AreSameBases};
 ghost use Rattle.logical_paths.specs.KeyedViews.{AreLaidOut, HaveRecords, IsKeyedJoin};
 ghost use Rattle.join_position.specs.RowReads.{IsJoinOf};
 ghost use Rattle.join_position.specs.RowStand.{JoinStand};

@@ -3,3 +3,5 @@
 
 pub mod laws;
 pub mod shown;
+
+pub use join_rows;

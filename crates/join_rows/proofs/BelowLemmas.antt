@@ -13,7 +13,7 @@ use Rattle.member_slots.specs.Members.{NumberedMembers}
 use Rattle.file_model.specs.declared.joins.JoinPair.{JoinPair}
 use Rattle.file_model.specs.declared.joins.Secondary.{Secondary}
 use Rattle.file_model.specs.Joins.{Match, Matched, JoinRow, image_in, compare_matches, row_with}
-use Rattle.key_order.proofs.FitLemmas.{Bytes}
+use Rattle.access_path.proofs.FitLemmas.{Bytes}
 use Rattle.join_rows.specs.Levels.{first_of, below}
 use Rattle.join_rows.specs.NextRow.{match_of}
 use Rattle.join_rows.specs.Numbers.{matched_number, row_by}

@@ -20,8 +20,8 @@ use Rattle.file_model.specs.Joins.{Match, RecordAt, Matched, JoinRow, image_in, 
 use Rattle.file_model.specs.Paths.{compare_entries, entry_of}
 use Rattle.file_model.specs.Views.{field_value}
 use Rattle.file_model.proofs.PathLemmas.{weaker, all-filter}
-use Rattle.key_order.specs.KeyFields.{AreBytes}
-use Rattle.key_order.proofs.FitLemmas.{Bytes}
+use Rattle.access_path.specs.KeyFields.{AreBytes}
+use Rattle.access_path.proofs.FitLemmas.{Bytes}
 use Rattle.access_path.proofs.OrderedLemmas.{all-in_order}
 use Rattle.join_rows.specs.Levels.{isnt_before, isnt_after}
 use Rattle.join_rows.specs.NextRow.{match_of}

@@ -19,3 +19,7 @@ mod EntryLemmas
 mod PrimaryLemmas
 mod SequenceLemmas
 mod StandLemmas
+pub use Rattle.file_cursor.proofs.EntryLemmas as FileCursorEntryLemmas
+pub use Rattle.file_cursor.proofs.ListLemmas
+pub use Rattle.file_cursor.proofs.RoomLemmas
+pub use Rattle.file_cursor.proofs.SideLemmas

@@ -20,11 +20,11 @@ use Rattle.file_model.specs.KeyOrder.{KeyValue, Missing, Ascending, Descending, 
 use Rattle.file_model.specs.Joins.{Match, NoRecord, RecordAt, compare_matches, joined_fields, parts_from, sequence_part, total_width}
 use Rattle.file_model.specs.Paths.{path_key}
 use Rattle.file_model.specs.Views.{field_value, view_of}
-use Rattle.key_order.specs.KeyBytes.{key_bytes}
-use Rattle.key_order.specs.KeyFields.{Matches}
-use Rattle.key_order.proofs.FitLemmas.{Bytes}
-use Rattle.key_order.proofs.KeyLemmas.{FitsAt, AreFit, keys-cmp, keys-cut, image-fits}
-use Rattle.key_order.proofs.ViewLemmas.{view-bytes}
+use Rattle.access_path.specs.KeyBytes.{key_bytes}
+use Rattle.access_path.specs.KeyFields.{Matches}
+use Rattle.access_path.proofs.FitLemmas.{Bytes}
+use Rattle.access_path.proofs.KeyLemmas.{FitsAt, AreFit, keys-cmp, keys-cut, image-fits}
+use Rattle.access_path.proofs.ViewLemmas.{view-bytes}
 use Rattle.access_path.specs.KeptEntries.{entry_with}
 use Rattle.join_rows.specs.Levels.{isnt_before}
 use Rattle.join_rows.specs.Wanted.{wanted, as_key, has_wanted}

@@ -27,8 +27,8 @@ use Rattle.file_model.specs.Selection.{selects}
 use Rattle.file_model.specs.Sorting.{in_order}
 use Rattle.file_model.specs.Positions as model
 use Rattle.file_model.proofs.PathLemmas.{weaker, all-filter, all-map, all-append}
-use Rattle.key_order.specs.KeyFields.{Matches}
-use Rattle.key_order.proofs.KeyLemmas.{Matches-itself}
+use Rattle.access_path.specs.KeyFields.{Matches}
+use Rattle.access_path.proofs.KeyLemmas.{Matches-itself}
 use Rattle.access_path.specs.PathBytes.{is_falling, in_bytes}
 use Rattle.access_path.proofs.OrderedLemmas.{all-in_order}
 use Rattle.file_cursor.specs.CursorPosition.{CursorPosition, On, Before, Past, ByKey}

@@ -5,8 +5,8 @@ use Rattle.field_types.specs.declared.kinds.FieldType.{FieldType}
 use Rattle.key_spec.specs.declared.KeyPart.{KeyPart}
 use Rattle.key_spec.specs.declared.KeyPart.TheVariants.{Field}
 use Rattle.file_model.specs.KeyOrder.{key_value}
-use Rattle.key_order.specs.KeyBytes.{encoded}
-use Rattle.key_order.specs.KeyFields.{HasPosition, HasKey}
+use Rattle.access_path.specs.KeyBytes.{encoded}
+use Rattle.access_path.specs.KeyFields.{HasPosition, HasKey}
 use Rattle.join_rows.specs.Places.{sequence_bytes}
 
 pub one-has : (p : KeyPart) (image : List ℕ) → HasPosition p image → (parts : List KeyPart) → parts ≡ p ∷ [] → HasKey parts image

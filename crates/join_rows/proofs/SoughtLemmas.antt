@@ -19,10 +19,10 @@ use Rattle.file_model.specs.declared.joins.JoinPair.{JoinPair}
 use Rattle.file_model.specs.declared.views.ViewField.{ViewField}
 use Rattle.file_model.specs.KeyOrder.{KeyValue, Ascending}
 use Rattle.file_model.specs.Views.{field_value, field_image}
-use Rattle.key_order.specs.KeyBytes.{key_bytes, position_bytes, digits_of}
-use Rattle.key_order.proofs.FitLemmas.{Bytes, OfBytes, Bytes-append, Bytes-replicate, bytes-held, fits-as_held}
-use Rattle.key_order.proofs.KeyLemmas.{FitsAt, AreFit}
-use Rattle.key_order.proofs.ViewLemmas.{view-bytes}
+use Rattle.access_path.specs.KeyBytes.{key_bytes, position_bytes, digits_of}
+use Rattle.access_path.proofs.FitLemmas.{Bytes, OfBytes, Bytes-append, Bytes-replicate, bytes-held, fits-as_held}
+use Rattle.access_path.proofs.KeyLemmas.{FitsAt, AreFit}
+use Rattle.access_path.proofs.ViewLemmas.{view-bytes}
 use Rattle.join_rows.specs.Wanted.{is_blank, cut_to, as_sought, unless_fault, sought_in, with_value, wanted, as_key}
 use Rattle.join_rows.specs.WantedBytes.{sought_bytes, both_bytes, wanted_bytes, joined_parts, values_bytes}
 use Rattle.join_rows.proofs.OptionLemmas.{none-some, some-same}

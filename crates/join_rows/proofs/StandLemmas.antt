@@ -19,7 +19,7 @@ use Rattle.file_model.specs.Selection.{selects}
 use Rattle.file_model.specs.Sorting.{in_order}
 use Rattle.file_model.specs.Positions as model
 use Rattle.file_model.proofs.PathLemmas.{weaker, all-filter, all-map, all-append}
-use Rattle.key_order.specs.KeyFields.{AreBytes}
+use Rattle.access_path.specs.KeyFields.{AreBytes}
 use Rattle.access_path.specs.KeptEntries.{entry_with}
 use Rattle.access_path.specs.PathBytes.{in_bytes}
 use Rattle.access_path.proofs.OrderedLemmas.{all-in_order}

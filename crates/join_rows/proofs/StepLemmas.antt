@@ -15,8 +15,8 @@ use Rattle.field_values.specs.FieldTypes.{width}
 use Rattle.std.specs.List.{list_all}
 use Rattle.std.proofs.lemmas.Bool.{cond-true}
 use Rattle.join_rows.proofs.MatchLemmas.{some-width}
-use Rattle.key_order.specs.KeyBytes.{position_bytes, encoded_values}
-use Rattle.key_order.specs.GivenValues.{fault_before, key_fault}
+use Rattle.access_path.specs.KeyBytes.{position_bytes, encoded_values}
+use Rattle.access_path.specs.GivenValues.{fault_before, key_fault}
 use Rattle.join_rows.proofs.OptionLemmas.{none-some, some-none, some-same}
 use Rattle.join_rows.specs.Wanted.{is_blank, cut_to, as_sought, unless_fault, held_in, sought_in}
 use Rattle.join_rows.specs.WantedBytes.{joined_part, sought_bytes, with_bytes, both_bytes}

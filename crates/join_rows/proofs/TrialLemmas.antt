@@ -15,7 +15,7 @@ use Rattle.member_slots.specs.Members.{NumberedMembers, member_of}
 use Rattle.file_model.specs.declared.joins.Secondary.{Secondary}
 use Rattle.file_model.specs.KeyOrder.{KeyValue, compare_key_values, key_value}
 use Rattle.file_model.specs.Joins.{Match, NoRecord, RecordAt, Matched, JoinRow, image_in, compare_matches, matches_of, or_missing, secondary_path}
-use Rattle.key_order.proofs.FitLemmas.{Bytes}
+use Rattle.access_path.proofs.FitLemmas.{Bytes}
 use Rattle.join_rows.specs.Levels.{below, isnt_before, isnt_after}
 use Rattle.join_rows.specs.NextRow.{match_of, level_of}
 use Rattle.join_rows.specs.Numbers.{image_at, matched_number, entry_in_path}

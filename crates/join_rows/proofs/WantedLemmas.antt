@@ -28,7 +28,7 @@ use Rattle.decimal_order.proofs.OrderLemmas.{compare_numbers-total, compare_numb
 use Rattle.file_model.specs.KeyOrder.{compare_values}
 use Rattle.file_model.specs.Selection.{compare_filled, is_related}
 use Rattle.file_model.specs.declared.rules.Relation.TheVariants.{Equals}
-use Rattle.key_order.proofs.FitLemmas.{sized-held}
+use Rattle.access_path.proofs.FitLemmas.{sized-held}
 use Rattle.join_rows.proofs.OptionLemmas.{true-false, some-none}
 use Rattle.join_rows.specs.Wanted.{is_blank, cut_to, as_sought, unless_fault, held_in, sought_in, is_wanted}
 

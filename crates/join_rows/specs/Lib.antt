@@ -10,3 +10,6 @@ pub mod Reading
 pub mod Trials
 pub mod Rows
 pub mod Standing
+pub use Rattle.file_cursor.specs.CursorPosition
+pub use Rattle.file_cursor.specs.Finding
+pub use Rattle.file_cursor.specs.PositionBytes

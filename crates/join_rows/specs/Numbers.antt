@@ -8,7 +8,7 @@ use Rattle.key_pages.specs.declared.entries.Entry.{Entry}
 use Rattle.file_model.specs.declared.joins.Secondary.{Secondary}
 use Rattle.file_model.specs.Joins.{Matched, NoRecord, JoinRow, matched, row_with}
 use Rattle.file_model.specs.Paths.{path_key}
-use Rattle.key_order.specs.KeyBytes.{key_bytes}
+use Rattle.access_path.specs.KeyBytes.{key_bytes}
 use Rattle.access_path.specs.KeptEntries.{entry_with}
 use Rattle.join_rows.specs.Matches.{format_of}
 

@@ -9,8 +9,8 @@ use Rattle.file_model.specs.declared.paths.PathSpec.{PathSpec}
 use Rattle.file_model.specs.KeyOrder.{KeyValue, key_value}
 use Rattle.file_model.specs.Joins.{Match, NoRecord, RecordAt, sequence_part}
 use Rattle.file_model.specs.Paths.{path}
-use Rattle.key_order.specs.KeyBytes.{key_bytes}
-use Rattle.key_order.specs.KeyFields.{AreBytes}
+use Rattle.access_path.specs.KeyBytes.{key_bytes}
+use Rattle.access_path.specs.KeyFields.{AreBytes}
 use Rattle.access_path.specs.PathBytes.{is_falling, in_bytes}
 use Rattle.join_rows.specs.Matches.{sequence_key, HasJoined}
 

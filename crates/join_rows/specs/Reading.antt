@@ -7,7 +7,7 @@ use Rattle.member_slots.specs.Member.{records}
 use Rattle.member_slots.specs.Members.{NumberedMembers, member_of}
 use Rattle.file_model.specs.declared.joins.Secondary.{Secondary}
 use Rattle.file_model.specs.Joins.{Match, NoRecord, RecordAt, JoinRow, image_in, secondary_path}
-use Rattle.key_order.specs.KeyFields.{AreBytes}
+use Rattle.access_path.specs.KeyFields.{AreBytes}
 use Rattle.join_rows.specs.declared.positions.MatchPlace.{MatchPlace}
 use Rattle.join_rows.specs.declared.positions.MatchPlace.TheVariants.{Missing, Record}
 use Rattle.join_rows.specs.declared.positions.Left.{Left}

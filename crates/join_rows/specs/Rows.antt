@@ -12,7 +12,7 @@ use Rattle.file_model.specs.declared.joins.JoinSpec.{JoinSpec}
 use Rattle.file_model.specs.Joins.{RowPlace, JoinRow}
 use Rattle.file_model.specs.Paths.{PathEntry}
 use Rattle.file_model.specs.Positions as model
-use Rattle.key_order.specs.KeyBytes.{key_bytes}
+use Rattle.access_path.specs.KeyBytes.{key_bytes}
 use Rattle.access_path.specs.KeptEntries.{entry_with}
 use Rattle.access_path.specs.PathBytes.{in_bytes, IsInBytes}
 use Rattle.file_cursor.specs.CursorPosition.{CursorPosition, Start, End, On, Before, Past, ByKey}

@@ -8,7 +8,7 @@ use Rattle.key_spec.specs.declared.KeyPart.TheVariants.{Field}
 use Rattle.file_model.specs.declared.joins.JoinPair.{JoinPair}
 use Rattle.file_model.specs.KeyOrder.{Ascending}
 use Rattle.file_model.specs.Views.{field_value}
-use Rattle.key_order.specs.KeyBytes.{position_bytes, key_bytes}
+use Rattle.access_path.specs.KeyBytes.{position_bytes, key_bytes}
 use Rattle.view_rules.specs.Shown.{HasValue}
 use Rattle.join_rows.specs.Wanted.{as_key, sought_in}
 

@@ -18,7 +18,7 @@ ghost use Rattle.file_model.specs.KeyOrder.{KeyValue};
 ghost use Rattle.file_model.specs.Joins.{Match, RecordAt, RowPlace, JoinRow, image_in, compare_matches, compare_places, matches_of, rows_of, secondary_path};
 ghost use Rattle.file_model.specs.Positions.{Position, next_from, prior_from};
 ghost use Rattle.file_model.specs.Selection.{is_related};
-ghost use Rattle.key_order.specs.KeyFields.{AreBytes};
+ghost use Rattle.access_path.specs.KeyFields.{AreBytes};
 ghost use Rattle.join_rows.specs.declared.positions.MatchPlace.{MatchPlace};
 ghost use Rattle.join_rows.specs.Rows.{CanBeRead, IsPlace, found_row};
 ghost use Rattle.join_rows.specs.Standing.{CanBeStoodOn, AreKept};

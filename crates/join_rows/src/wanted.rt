@@ -10,13 +10,13 @@ ghost use Rattle.view_rules.specs.Shown.{HasValue};
 ghost use Rattle.join_rows.specs.Wanted.{is_blank, cut_to, as_sought, sought_in};
 ghost use Rattle.join_rows.specs.WantedBytes.{CanBeSought, sought_bytes, wanted_bytes, with_bytes};
 
+use access_path::key_order::given::{KeyFault, encode_values};
 use field_types::kinds::FieldType;
 use field_types::texts::Text;
 use field_types::values::Value;
 use field_values::fields::{self, BLANK};
 use file_model::joins::JoinPair;
 use file_model::views::ViewField;
-use key_order::given::{KeyFault, encode_values};
 use key_pages::Key;
 use key_spec::KeyPart;
 use std::alloc::{AllocError, Global};

@@ -1,1 +1,16 @@
 pub mod OpenLemmas
+pub use Rattle.lawful_states.proofs.BackLemmas
+pub use Rattle.lawful_states.proofs.BaseLemmas
+pub use Rattle.lawful_states.proofs.FileLemmas
+pub use Rattle.lawful_states.proofs.FindLemmas
+pub use Rattle.lawful_states.proofs.MemberLemmas
+pub use Rattle.lawful_states.proofs.NameLemmas
+pub use Rattle.lawful_states.proofs.NumberLemmas
+pub use Rattle.lawful_states.proofs.OwnerLemmas
+pub use Rattle.lawful_states.proofs.StatusLemmas
+pub use Rattle.logical_laws.proofs.FoundLemmas
+pub use Rattle.logical_laws.proofs.GivenLemmas
+pub use Rattle.logical_laws.proofs.ListLemmas
+pub use Rattle.logical_laws.proofs.MappedLemmas
+pub use Rattle.logical_laws.proofs.SameLemmas
+pub use Rattle.logical_laws.proofs.SomeLemmas

@@ -4,10 +4,10 @@ use Rattle.std.specs.List.{AllByRecursion}
 use Rattle.logical_model.specs.Bases.{FileSpec, PhysicalFile, LogicalFile}
 use Rattle.member_slots.specs.Members.{member_at}
 use Rattle.library_model.specs.Named.{Named, named}
-use Rattle.library_steps.specs.State.{State, FileState, MemberStatus, OpenState, JobState, memory_of, fields_of, open_named}
-use Rattle.library_steps.specs.DeleteFile.{user_by}
-use Rattle.library_steps.specs.Reads.{at_format}
-use Rattle.library_steps.specs.Uses.{first_job, user_of_any}
+use Rattle.lawful_states.specs.State.{State, FileState, MemberStatus, OpenState, JobState, memory_of, fields_of, open_named}
+use Rattle.lawful_states.specs.DeleteFile.{user_by}
+use Rattle.lawful_states.specs.Reads.{at_format}
+use Rattle.lawful_states.specs.Uses.{first_job, user_of_any}
 use Rattle.lawful_states.specs.Lawful.{IsBased, IsLibrary, OpenHolds, OpensBy, OpensFile, OpensHold}
 use Rattle.lawful_states.proofs.FileLemmas.{Owns-below}
 use Rattle.lawful_states.proofs.FindLemmas.{IsMember, members-of-open, open-holds}

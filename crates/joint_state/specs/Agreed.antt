@@ -9,9 +9,9 @@ use Rattle.journal_model.specs.Acts.{acts}
 use Rattle.journal_model.specs.Places.{slot_of}
 use Rattle.journal_model.specs.AtSequence.{IsChained, IsSo, known_after}
 use Rattle.library_model.specs.Named.{Named}
-use Rattle.library_steps.specs.State.{State, FileState, JobState, memory_of}
-use Rattle.library_steps.specs.SlotChange.{images_of, status_among}
-use Rattle.library_steps.specs.Uses.{changes_in}
+use Rattle.lawful_states.specs.State.{State, FileState, JobState, memory_of}
+use Rattle.lawful_states.specs.SlotChange.{images_of, status_among}
+use Rattle.lawful_states.specs.Uses.{changes_in}
 
 -- of the record at a place, counted from 0, of a member that is there
 pub record IsAsTold (s : State) (member place : ℕ) : Type 0 where

@@ -5,9 +5,9 @@ use Rattle.lock_table.specs.declared.lock.Lock.{Lock}
 use Rattle.lock_table.specs.declared.lock.Holder.{Holder}
 use Rattle.lock_table.specs.declared.lock.RecordId.{RecordId}
 use Rattle.lock_table.specs.Lock.{is_by, is_on, is_open, is_update}
-use Rattle.library_steps.specs.State.{Memory, OpenState, JobState}
-use Rattle.library_steps.specs.Locking.{holder_of, record_of}
-use Rattle.library_steps.specs.Records.{live_record}
+use Rattle.lawful_states.specs.State.{Memory, OpenState, JobState}
+use Rattle.lawful_states.specs.Locking.{holder_of, record_of}
+use Rattle.lawful_states.specs.Records.{live_record}
 
 -- an update lock through this open; outside commitment one that ends at the open's next read
 abbrev pub keeps_record : (commit : Bool) → Holder → RecordId → Lock → Bool

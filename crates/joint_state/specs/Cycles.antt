@@ -7,9 +7,9 @@ use Rattle.lock_table.specs.Table.{HoldsChange}
 use Rattle.journal_model.specs.Places.{slot_of}
 use Rattle.journal_model.specs.Replay.{before_of}
 use Rattle.journal_model.specs.Rollback.{MemberChange}
-use Rattle.library_steps.specs.State.{Memory, CycleState, JobState}
-use Rattle.library_steps.specs.SlotChange.{images_of}
-use Rattle.library_steps.specs.Uses.{changes_in}
+use Rattle.lawful_states.specs.State.{Memory, CycleState, JobState}
+use Rattle.lawful_states.specs.SlotChange.{images_of}
+use Rattle.lawful_states.specs.Uses.{changes_in}
 
 -- the job with this number has the lock of each record that its open commit cycle changed
 abbrev pub ChangesAreLocked : Memory → ℕ → JobState → Type 0

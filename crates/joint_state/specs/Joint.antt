@@ -2,8 +2,8 @@
 use Rattle.std.specs.Prelude.{◌≡◌, ◌+◌, ℕ, true, Some, None, [], slice_get}
 use Rattle.std.specs.List.{AllByRecursion}
 use Rattle.lock_table.specs.Table.{AreCompatible}
-use Rattle.library_steps.specs.State.{State, JobState, memory_of}
-use Rattle.library_steps.specs.Uses.{changes_in}
+use Rattle.lawful_states.specs.State.{State, JobState, memory_of}
+use Rattle.lawful_states.specs.Uses.{changes_in}
 use Rattle.joint_state.specs.Opens.{HasOpens}
 use Rattle.joint_state.specs.Locks.{LockStands}
 use Rattle.joint_state.specs.CurrentRecords.{AllCurrentStand}

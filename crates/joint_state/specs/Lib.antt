@@ -8,3 +8,8 @@ pub mod Joint
 pub mod Agreed
 pub mod Views
 pub mod Sound
+pub use Rattle.lawful_states.specs.Calls
+pub use Rattle.lawful_states.specs.Lawful
+pub use Rattle.lawful_states.specs.Owners
+pub use Rattle.logical_laws.specs.Found
+pub use Rattle.logical_laws.specs.Mapped

@@ -7,7 +7,7 @@ use Rattle.member_slots.specs.Member.{MemberState}
 use Rattle.member_slots.specs.Members.{NumberedMembers}
 use Rattle.record_fmt.specs.Layout.{IsLaidOut}
 use Rattle.library_model.specs.Named.{Named, named}
-use Rattle.library_steps.specs.State.{FileState, fields_of}
+use Rattle.lawful_states.specs.State.{FileState, fields_of}
 
 abbrev pub AreFormats : Named FileState → Type 0
 AreFormats files = (name : List ℕ) (file : FileState) → named name files ≡ Some file → IsLaidOut (fields_of file)

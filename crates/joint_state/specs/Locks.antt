@@ -5,7 +5,7 @@ use Rattle.std.specs.List.{list_any}
 use Rattle.member_slots.specs.Members.{member_of}
 use Rattle.lock_table.specs.declared.lock.Lock.{Lock}
 use Rattle.lock_table.specs.Lock.{is_open}
-use Rattle.library_steps.specs.State.{Memory, OpenState, JobState, job_of}
+use Rattle.lawful_states.specs.State.{Memory, OpenState, JobState, job_of}
 
 -- the lock is held through this open
 abbrev pub is_through : Lock → OpenState → Bool

@@ -2,7 +2,7 @@
 use Rattle.std.specs.Prelude.{◌≡◌, ℕ, ◌<◌, ◌≤◌, false, List, [], ◌∷◌}
 use Rattle.std.specs.List.{AllByRecursion}
 use Rattle.library_model.specs.Named.{Named, same_name}
-use Rattle.library_steps.specs.State.{OpenState, JobState}
+use Rattle.lawful_states.specs.State.{OpenState, JobState}
 
 -- two opens of a job, by the order in which they were made
 pub record IsBefore (former later : List ℕ × OpenState) : Type 0 where

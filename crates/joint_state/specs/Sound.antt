@@ -7,10 +7,10 @@ use Rattle.journal_model.specs.Journal.{AreNumbered}
 use Rattle.library_model.specs.Named.{same_name}
 use Rattle.library_model.specs.declared.requests.Request.{Request}
 use Rattle.library_model.specs.declared.sources.NamedSource.{NamedSource}
-use Rattle.library_steps.specs.State.{State, memory_of, with_entries, job_at}
-use Rattle.library_steps.specs.Change.{Change}
-use Rattle.library_steps.specs.Step.{change}
-use Rattle.library_steps.specs.History.{is_running}
+use Rattle.lawful_states.specs.State.{State, memory_of, with_entries, job_at}
+use Rattle.lawful_states.specs.Change.{Change}
+use Rattle.lawful_states.specs.Step.{change}
+use Rattle.lawful_states.specs.History.{is_running}
 use Rattle.lawful_states.specs.Lawful.{IsLibrary}
 use Rattle.joint_state.specs.Limits.{AreFormats, AreWithin}
 use Rattle.joint_state.specs.Joint.{IsJoint}

@@ -12,7 +12,7 @@ use Rattle.journal_model.specs.Images.{images_of}
 use Rattle.journaled_entries.specs.Deposited.{is_of_record}
 use Rattle.library_model.specs.Named.{Named}
 use Rattle.lawful_states.specs.Owners.{Owns}
-use Rattle.library_steps.specs.State.{State, FileState, fields_of}
+use Rattle.lawful_states.specs.State.{State, FileState, fields_of}
 
 -- a record of these fields: as long as they are together, with a value in each
 pub record IsRecordOf (fields : List Field) (image : List ℕ) : Type 0 where

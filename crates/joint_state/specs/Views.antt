@@ -1,12 +1,12 @@
 -- What logical files store lies in whole fields of their base files' records, so that what is given through them makes records of these.
 -- (DDS for Physical and Logical Files, "CONCAT", "SST".)
 use Rattle.std.specs.Prelude.{◌≡◌, ℕ, Some, IsSome, List, slice_get}
-use Rattle.dds_logical.specs.declared.views.LogicalSpec.{LogicalSpec}
+use Rattle.logical_model.below.dds_logical.specs.declared.views.LogicalSpec.{LogicalSpec}
 use Rattle.library_model.specs.Named.{Named, named}
 use Rattle.logical_model.specs.Bases.{Bases, FileSpec, PhysicalFile, LogicalFile, base_names}
 use Rattle.logical_laws.specs.Mapped.{IsSpecMapped, HoldDefaults}
-use Rattle.library_steps.specs.State.{FileState, fields_of}
-use Rattle.library_steps.specs.LogicalFiles.{bases_in}
+use Rattle.lawful_states.specs.State.{FileState, fields_of}
+use Rattle.lawful_states.specs.LogicalFiles.{bases_in}
 
 -- a logical file has a format, so that an open has a member before any read
 pub record IsView (bases : Bases) (spec : LogicalSpec) : Type 0 where

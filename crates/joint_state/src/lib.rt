@@ -2,7 +2,7 @@
 //! `specs/Joint.antt`.
 #![tactic(auto)]
 
-ghost use Rattle.library_steps.specs.State.{empty_library};
+ghost use Rattle.lawful_states.specs.State.{empty_library};
 ghost use Rattle.joint_state.specs.Joint.{IsJoint};
 
 /// So it is of a library with nothing in it.

@@ -1,1 +1,2 @@
 pub mod Fronts
+pub use Rattle.deposited_entries.specs.Deposits

@@ -31,9 +31,9 @@ use Rattle.lawful_states.specs.Back.{member_back, members_back}
 use Rattle.lawful_states.specs.Lawful.{CycleGoesBack, FitsPlace, GoesBack}
 use Rattle.lawful_states.proofs.BoundaryLemmas.{cycle_back-is, cycle-places, places-back}
 use Rattle.lawful_states.proofs.MemberLemmas.{item_at-with_item_other, member_of-with}
-use Rattle.joint_state.specs.Agreed.{Agrees, StaysJournaled, is_journaled}
-use Rattle.joint_state.specs.Cycles.{StandAsMade}
-use Rattle.joint_state.specs.Sound.{IsSound, after}
+use Rattle.range_histories.specs.Agreed.{Agrees, StaysJournaled, is_journaled}
+use Rattle.range_histories.specs.Cycles.{StandAsMade}
+use Rattle.range_histories.specs.Sound.{IsSound, after}
 use Rattle.journal_kept.proofs.KnownLemmas.{quiet-nothing, quiet-rolled_back}
 use Rattle.journal_kept.proofs.DraftLemmas.{IsSilent, SlotLeads, all-append, change_drafts-lead, change_drafts-of, of-others, slots-append, slots-silent}
 use Rattle.journal_kept.proofs.StepLemmas.{IsFollowed, given-followed, kept-journaled, known_of, stays-followed}

@@ -35,9 +35,9 @@ use Rattle.library_steps.specs.CreatePhysicalFile.{create_change, create_physica
 use Rattle.library_steps.specs.MemberCommands.{add_member, add_plan, file_changed, with_member_name}
 use Rattle.library_steps.specs.DeleteFile.{delete_change, delete_file, delete_plan, deleted, first_dependent, user_by, without_file, without_members}
 use Rattle.lawful_states.proofs.MemberLemmas.{IsThere-is_some, item_at-put_item_other, item_at-without_item_other}
-use Rattle.joint_state.specs.Agreed.{Agrees, AreAllJournaled, StaysJournaled, is_journaled}
-use Rattle.joint_state.specs.Sound.{IsSound, after}
-use Rattle.joint_state.proofs.OpenLemmas.{unused-members}
+use Rattle.range_histories.specs.Agreed.{Agrees, AreAllJournaled, StaysJournaled, is_journaled}
+use Rattle.range_histories.specs.Sound.{IsSound, after}
+use Rattle.range_histories.proofs.OpenLemmas.{unused-members}
 use Rattle.range_histories.proofs.ResultLemmas.{bind-ok, found-ok, unused-ok}
 use Rattle.journal_kept.proofs.KnownLemmas.{IsQuiet, leads-quiet, quiet-nothing}
 use Rattle.journal_kept.proofs.DraftLemmas.{DraftsLead, IsSilent, act-elsewhere, drafts-silent}

@@ -7,7 +7,7 @@ use Rattle.library_steps.specs.State.{FileState, OpenState, CycleState, JobState
 use Rattle.library_steps.specs.Uses.{changes_in}
 use Rattle.library_steps.specs.SlotChange.{cycle_for, noted}
 use Rattle.library_steps.specs.Opens.{without_open}
-use Rattle.joint_state.specs.Agreed.{AreAllJournaled, StaysJournaled, is_journaled}
+use Rattle.range_histories.specs.Agreed.{AreAllJournaled, StaysJournaled, is_journaled}
 
 -- an open under commitment is of journaled members
 abbrev pub IsOpenJournaled : Named FileState → OpenState → Type 0

@@ -42,8 +42,8 @@ use Rattle.library_steps.specs.Commitment.{boundary_locks, commit, commit_change
 use Rattle.library_steps.specs.Receivers.{attached, attach_change, attach_plan, change_journal}
 use Rattle.library_steps.specs.Checkpoint.{save, save_change, save_plan}
 use Rattle.library_steps.specs.JournalReads.{display_journal, display_plan}
-use Rattle.joint_state.specs.Agreed.{Agrees, AreAllJournaled, StaysJournaled}
-use Rattle.joint_state.specs.Sound.{IsSound, after}
+use Rattle.range_histories.specs.Agreed.{Agrees, AreAllJournaled, StaysJournaled}
+use Rattle.range_histories.specs.Sound.{IsSound, after}
 use Rattle.range_histories.proofs.ResultLemmas.{bind-ok, found-ok, ok-same, refuse_if-ok, refuse_with-ok}
 use Rattle.journal_kept.proofs.KnownLemmas.{quiet-nothing, quiet-committed}
 use Rattle.journal_kept.proofs.DraftLemmas.{IsSilent, all-append}

@@ -6,8 +6,8 @@ use Rattle.library_model.specs.declared.sources.NamedSource.{NamedSource}
 use Rattle.library_steps.specs.State.{State, memory_of}
 use Rattle.library_steps.specs.Change.{Change}
 use Rattle.library_steps.specs.Step.{change}
-use Rattle.joint_state.specs.Agreed.{Agrees}
-use Rattle.joint_state.specs.Sound.{Does, IsSound, after}
+use Rattle.range_histories.specs.Agreed.{Agrees}
+use Rattle.range_histories.specs.Sound.{Does, IsSound, after}
 use Rattle.journal_kept.proofs.JobRequests.{change_journal-kept, close_file-kept, commit-kept, display_journal-kept, end_commitment-kept, open_file-kept, position-kept, read-kept, save-kept, start_commitment-kept, unlock-kept}
 use Rattle.journal_kept.proofs.ReceiverRequests.{delete_receiver-kept}
 use Rattle.journal_kept.proofs.SlotRequests.{delete_record-kept, update_record-kept, write_record-kept}

@@ -11,3 +11,6 @@ pub mod BackRequests
 pub mod MemberRequests
 pub mod FileRequests
 pub mod KeptLemmas
+pub use Rattle.lawful_states.proofs.BackLemmas
+pub use Rattle.lawful_states.proofs.FindLemmas
+pub use Rattle.lawful_states.proofs.MemberLemmas

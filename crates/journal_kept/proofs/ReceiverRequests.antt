@@ -16,8 +16,8 @@ use Rattle.library_model.specs.declared.requests.DeleteReceiver.{DeleteReceiver}
 use Rattle.library_steps.specs.State.{State, memory_of}
 use Rattle.library_steps.specs.Change.{Change}
 use Rattle.library_steps.specs.Receivers.{delete_receiver, give_up_plan}
-use Rattle.joint_state.specs.Agreed.{Agrees}
-use Rattle.joint_state.specs.Sound.{IsSound, after}
+use Rattle.range_histories.specs.Agreed.{Agrees}
+use Rattle.range_histories.specs.Sound.{IsSound, after}
 use Rattle.journal_kept.proofs.KnownLemmas.{IsLess, agrees-less, known_after-append, less-none, less-so}
 use Rattle.journal_kept.proofs.JobRequests.{does-each}
 

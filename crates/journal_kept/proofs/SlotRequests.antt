@@ -36,10 +36,10 @@ use Rattle.library_steps.specs.WriteRecord.{format_asked, has_room, is_input, ne
 use Rattle.library_steps.specs.ChangeRecord.{delete_change, delete_plan, delete_record, is_current, update_change, update_plan, update_record, without_current, without_record}
 use Rattle.lawful_states.proofs.FindLemmas.{IsMember}
 use Rattle.lawful_states.proofs.MemberLemmas.{item_at-with_item_other, member_of-with}
-use Rattle.joint_state.specs.Agreed.{Agrees, AreAllJournaled, StaysJournaled, is_journaled}
-use Rattle.joint_state.specs.CurrentRecords.{CurrentStands}
-use Rattle.joint_state.specs.Sound.{IsSound, after}
-use Rattle.joint_state.proofs.OpenLemmas.{IsAmong, among-format, each-among, member-there, opened-stands}
+use Rattle.range_histories.specs.Agreed.{Agrees, AreAllJournaled, StaysJournaled, is_journaled}
+use Rattle.range_histories.specs.CurrentRecords.{CurrentStands}
+use Rattle.range_histories.specs.Sound.{IsSound, after}
+use Rattle.range_histories.proofs.OpenLemmas.{IsAmong, among-format, each-among, member-there, opened-stands}
 use Rattle.range_histories.proofs.ResultLemmas.{bind-ok, found-ok, ok-same, refuse_if-ok}
 use Rattle.journal_kept.proofs.KnownLemmas.{quiet-began}
 use Rattle.journal_kept.proofs.DraftLemmas.{IsSilent, all-append, drafts-none, of-others, slot_drafts-lead, slot_drafts-of, slots-append, slots-silent}

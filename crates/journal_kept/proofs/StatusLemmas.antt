@@ -13,7 +13,7 @@ use Rattle.library_steps.specs.SlotChange.{status_in, status_among}
 use Rattle.library_steps.specs.CreatePhysicalFile.{new_status}
 use Rattle.library_steps.specs.MemberCommands.{file_changed, with_member_name}
 use Rattle.library_steps.specs.DeleteFile.{without_file}
-use Rattle.joint_state.specs.Agreed.{is_journaled}
+use Rattle.range_histories.specs.Agreed.{is_journaled}
 use Rattle.range_histories.proofs.NamedLemmas.{named-has_number}
 
 -- ---- the status that is found

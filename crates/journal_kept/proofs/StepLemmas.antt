@@ -18,8 +18,8 @@ use Rattle.library_steps.specs.State.{State, Memory, FileState, OpenState, JobSt
 use Rattle.library_steps.specs.Uses.{changes_in}
 use Rattle.library_steps.specs.Change.{journaled}
 use Rattle.library_steps.specs.SlotChange.{images_of}
-use Rattle.joint_state.specs.Agreed.{Agrees, AreAllJournaled, StaysJournaled, is_journaled}
-use Rattle.joint_state.specs.Sound.{after}
+use Rattle.range_histories.specs.Agreed.{Agrees, AreAllJournaled, StaysJournaled, is_journaled}
+use Rattle.range_histories.specs.Sound.{after}
 use Rattle.range_histories.proofs.HistoryLemmas.{drop-none}
 use Rattle.journal_kept.proofs.KnownLemmas.{known_after-append, IsChained-append}
 use Rattle.journal_kept.proofs.DraftLemmas.{DraftsLead, IsSilent, SlotLeads, drafts-silent}

@@ -3,8 +3,8 @@
 #![tactic(auto)]
 
 ghost use Rattle.library_steps.specs.State.{empty_library};
-ghost use Rattle.joint_state.specs.Agreed.{Agrees};
-ghost use Rattle.joint_state.specs.Sound.{IsKept};
+ghost use Rattle.range_histories.specs.Agreed.{Agrees};
+ghost use Rattle.range_histories.specs.Sound.{IsKept};
 
 /// The entries of each record go on from one another, and the last of them leaves it as it stands, after whatever is
 /// done to a sound library.

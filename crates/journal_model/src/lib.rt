@@ -8,4 +8,5 @@ mod ranges;
 mod replays;
 mod restarts;
 
+pub use entry_codec;
 pub use limits::LAST_MEMBER;

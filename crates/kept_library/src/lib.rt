@@ -85,3 +85,5 @@ impl<S: Store> KeptLibrary<S> {
         (store, journal, contents)
     }
 }
+
+pub use library_parts;

@@ -13,14 +13,14 @@ use Rattle.field_types.specs.declared.values.Value.{Value}
 use Rattle.field_types.specs.declared.values.Value.TheVariants.{Chars, Number}
 use Rattle.field_types.specs.declared.faults.ValueFault.{ValueFault}
 use Rattle.field_types.specs.declared.faults.ValueFault.TheVariants.{WrongKind, TooWide, BadDate}
-use Rattle.field_values.specs.FieldTypes.{width, packed_width, binary_width, is_numeric, is_moment_kind}
-use Rattle.field_values.specs.FieldBytes.{held, as_held, fault_of, number_fault}
-use Rattle.field_values.specs.Digits.{number_in, signed, is_minus, high_half, low_half, last_byte}
-use Rattle.field_values.specs.Zoned.{is_zoned}
-use Rattle.field_values.specs.Packed.{is_packed, is_spare_clear, packed_digits}
-use Rattle.field_values.specs.Binary.{is_byte, twos_complement}
-use Rattle.field_values.specs.Moments.{is_moment, is_date, is_time, is_timestamp}
-use Rattle.field_values.proofs.FieldLemmas.{field}
+use Rattle.field_laws.specs.FieldTypes.{width, packed_width, binary_width, is_numeric, is_moment_kind}
+use Rattle.field_laws.specs.FieldBytes.{held, as_held, fault_of, number_fault}
+use Rattle.field_laws.specs.Digits.{number_in, signed, is_minus, high_half, low_half, last_byte}
+use Rattle.field_laws.specs.Zoned.{is_zoned}
+use Rattle.field_laws.specs.Packed.{is_packed, is_spare_clear, packed_digits}
+use Rattle.field_laws.specs.Binary.{is_byte, twos_complement}
+use Rattle.field_laws.specs.Moments.{is_moment, is_date, is_time, is_timestamp}
+use Rattle.field_laws.proofs.FieldLemmas.{field}
 use Rattle.field_laws.proofs.WrittenLemmas.{number-small}
 use Rattle.field_laws.proofs.OneImageLemmas.{from-number, from-moment, from-text}
 use Rattle.field_laws.proofs.AcceptedLemmas.{IsKept, held-kept}

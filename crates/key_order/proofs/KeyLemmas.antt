@@ -13,9 +13,9 @@ use Rattle.field_types.specs.declared.faults.ValueFault.{ValueFault}
 use Rattle.field_types.specs.declared.faults.ValueFault.TheVariants.{WrongKind}
 use Rattle.field_types.specs.declared.faults.RecordFault.{RecordFault}
 use Rattle.field_types.specs.declared.faults.RecordFault.TheVariants.{Count, BadField}
-use Rattle.field_values.specs.FieldTypes.{width}
-use Rattle.field_values.specs.FieldBytes.{held, as_held}
-use Rattle.field_values.specs.FirstBad.{part}
+use Rattle.field_laws.specs.FieldTypes.{width}
+use Rattle.field_laws.specs.FieldBytes.{held, as_held}
+use Rattle.field_laws.specs.FirstBad.{part}
 use Rattle.key_spec.specs.declared.KeyPart.{KeyPart}
 use Rattle.key_spec.specs.declared.KeyPart.TheVariants.{Field, Absent}
 use Rattle.file_model.specs.KeyOrder.{KeyValue, Missing, Ascending, Descending, compare_key_values, compare_values, compare_keys, compare_with, at_position, ordered, key_of, given_value, given_key, either_part, either_parts, merged_parts}

@@ -10,8 +10,8 @@ use Rattle.std.specs.Cmp.{nat_cmp_is}
 use Rattle.std.proofs.lemmas.Cmp.{ranked}
 use Rattle.std.proofs.lemmas.Bool.{ne_eqb, eq-eqb}
 use Rattle.std.proofs.Math.Nat.{pow-suc, pow-zero, one-le-pow, mod-one, mod-lt, mul-le-mul_right}
-use Rattle.field_values.specs.Digits.{digits_in}
-use Rattle.field_values.proofs.DigitLemmas.{mod-product}
+use Rattle.field_laws.specs.Digits.{digits_in}
+use Rattle.field_laws.proofs.DigitLemmas.{mod-product}
 use Rattle.key_order.specs.KeyBytes.{complement}
 
 -- ---- one answer behind another

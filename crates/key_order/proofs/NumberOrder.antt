@@ -11,8 +11,8 @@ use Rattle.std.proofs.lemmas.Cmp.{ranked}
 use Rattle.std.proofs.lemmas.Int.{ints}
 use Rattle.std.proofs.Math.Nat.{pow-suc, mod-eq_of_lt, pow-le-pow_right}
 use Rattle.field_types.specs.declared.values.Dec.{Dec}
-use Rattle.field_values.specs.FieldTypes.{packed_width}
-use Rattle.field_values.proofs.DigitLemmas.{length-digits_in}
+use Rattle.field_laws.specs.FieldTypes.{packed_width}
+use Rattle.field_laws.proofs.DigitLemmas.{length-digits_in}
 use Rattle.decimal_order.specs.DecimalOrder.{compare_numbers, units_with}
 use Rattle.decimal_order.proofs.OrderLemmas.{int_cmp-scaled, some-power}
 use Rattle.key_order.specs.KeyBytes.{middle, from_middle, number_bytes}

@@ -12,13 +12,13 @@ use Rattle.field_types.specs.declared.kinds.FieldType.{FieldType}
 use Rattle.field_types.specs.declared.values.Dec.{Dec}
 use Rattle.field_types.specs.declared.values.Value.{Value}
 use Rattle.field_types.specs.declared.values.Value.TheVariants.{Chars, Number}
-use Rattle.field_values.specs.FieldTypes.{IsFieldType, is_allowed, is_between, width, packed_width, is_numeric}
-use Rattle.field_values.specs.FieldBytes.{held, as_held, fault_of, decimal, filled}
-use Rattle.field_values.specs.FirstBad.{part}
-use Rattle.field_values.proofs.FieldLemmas.{stands-text}
-use Rattle.field_values.proofs.BinaryLemmas.{middle-bits, bytes_high_first-digits_in}
-use Rattle.field_values.specs.Digits.{digits_in}
-use Rattle.field_values.proofs.DigitLemmas.{length-digits_in}
+use Rattle.field_laws.specs.FieldTypes.{IsFieldType, is_allowed, is_between, width, packed_width, is_numeric}
+use Rattle.field_laws.specs.FieldBytes.{held, as_held, fault_of, decimal, filled}
+use Rattle.field_laws.specs.FirstBad.{part}
+use Rattle.field_laws.proofs.FieldLemmas.{stands-text}
+use Rattle.field_laws.proofs.BinaryLemmas.{middle-bits, bytes_high_first-digits_in}
+use Rattle.field_laws.specs.Digits.{digits_in}
+use Rattle.field_laws.proofs.DigitLemmas.{length-digits_in}
 use Rattle.std.proofs.lemmas.List.{take_all}
 use Rattle.key_spec.specs.declared.KeyPart.{KeyPart}
 use Rattle.key_spec.specs.declared.KeyPart.TheVariants.{Field}

@@ -8,12 +8,12 @@ use Rattle.field_types.specs.declared.kinds.Kind.TheVariants.{Char, Zoned, Packe
 use Rattle.field_types.specs.declared.kinds.FieldType.{FieldType}
 use Rattle.field_types.specs.declared.values.Value.{Value}
 use Rattle.field_types.specs.declared.values.Value.TheVariants.{Chars, Number}
-use Rattle.field_values.specs.FieldTypes.{width, packed_width, binary_width}
-use Rattle.field_values.specs.Digits.{digits_in, sign_of, is_negative}
-use Rattle.field_values.specs.Zoned.{zoned_bytes}
-use Rattle.field_values.specs.Packed.{packed_bytes}
-use Rattle.field_values.specs.FieldBytes.{held, written, filled, number_written, units_at}
-use Rattle.field_values.specs.FirstBad.{part}
+use Rattle.field_laws.specs.FieldTypes.{width, packed_width, binary_width}
+use Rattle.field_laws.specs.Digits.{digits_in, sign_of, is_negative}
+use Rattle.field_laws.specs.Zoned.{zoned_bytes}
+use Rattle.field_laws.specs.Packed.{packed_bytes}
+use Rattle.field_laws.specs.FieldBytes.{held, written, filled, number_written, units_at}
+use Rattle.field_laws.specs.FirstBad.{part}
 use Rattle.field_laws.proofs.WrittenLemmas.{sign-small}
 use Rattle.file_model.specs.declared.views.Piece.{Piece}
 use Rattle.file_model.specs.declared.views.FieldSource.{FieldSource}

@@ -4,9 +4,9 @@ use Rattle.std.specs.List.{AllByRecursion}
 use Rattle.std.proofs.lemmas.List.Elements.{recursion_from_All}
 use Rattle.field_types.specs.declared.kinds.FieldType.{FieldType}
 use Rattle.field_types.specs.declared.values.Value.{Value}
-use Rattle.field_values.specs.FieldTypes.{width}
-use Rattle.field_values.specs.FieldBytes.{held, as_held}
-use Rattle.field_values.specs.FirstBad.{part}
+use Rattle.field_laws.specs.FieldTypes.{width}
+use Rattle.field_laws.specs.FieldBytes.{held, as_held}
+use Rattle.field_laws.specs.FirstBad.{part}
 use Rattle.key_spec.specs.declared.KeyPart.{KeyPart}
 use Rattle.key_spec.specs.declared.KeyPart.TheVariants.{Field, Absent}
 use Rattle.file_model.specs.KeyOrder.{absolute, ordered, at_position, key_value, given_value}

@@ -7,7 +7,7 @@ use Rattle.field_types.specs.declared.faults.ValueFault.{ValueFault}
 use Rattle.field_types.specs.declared.faults.ValueFault.TheVariants.{WrongKind}
 use Rattle.field_types.specs.declared.faults.RecordFault.{RecordFault}
 use Rattle.field_types.specs.declared.faults.RecordFault.TheVariants.{Count, BadField}
-use Rattle.field_values.specs.FieldBytes.{fault_of}
+use Rattle.field_laws.specs.FieldBytes.{fault_of}
 use Rattle.key_spec.specs.declared.KeyPart.{KeyPart}
 use Rattle.key_spec.specs.declared.KeyPart.TheVariants as parts
 use Rattle.key_order.specs.KeyFields.{AreBytes}

@@ -2,8 +2,8 @@
 use Rattle.std.specs.Prelude.{ℕ, suc, ◌+◌, ◌-◌, ◌*◌, ◌/◌, ◌^◌, ℤ, pos, negsuc, List, [], ◌∷◌, ◌++◌, map, Bool, if◌then◌else◌}
 use Rattle.field_types.specs.declared.values.Value.{Value}
 use Rattle.field_types.specs.declared.values.Value.TheVariants.{Chars, Number}
-use Rattle.field_values.specs.FieldTypes.{packed_width}
-use Rattle.field_values.specs.Digits.{digits_in}
+use Rattle.field_laws.specs.FieldTypes.{packed_width}
+use Rattle.field_laws.specs.Digits.{digits_in}
 use Rattle.key_spec.specs.declared.KeyPart.{KeyPart}
 use Rattle.key_spec.specs.declared.KeyPart.TheVariants.{Field, Absent}
 use Rattle.file_model.specs.KeyOrder.{KeyValue, Missing, Ascending, Descending, key_of, given_key}

@@ -2,9 +2,9 @@
 -- key field level; that one format may lack a position that another has is this project's own.)
 use Rattle.std.specs.Prelude.{◌≡◌, ℕ, ◌+◌, ◌≤◌, ◌<◌, true, List, [], ◌∷◌, length, is_some, All, if◌then◌else◌}
 use Rattle.field_types.specs.declared.kinds.FieldType.{FieldType}
-use Rattle.field_values.specs.FieldTypes.{IsFieldType, width, packed_width, is_numeric}
-use Rattle.field_values.specs.FieldBytes.{held}
-use Rattle.field_values.specs.FirstBad.{part}
+use Rattle.field_laws.specs.FieldTypes.{IsFieldType, width, packed_width, is_numeric}
+use Rattle.field_laws.specs.FieldBytes.{held}
+use Rattle.field_laws.specs.FirstBad.{part}
 use Rattle.key_spec.specs.declared.KeyPart.{KeyPart}
 use Rattle.key_spec.specs.declared.KeyPart.TheVariants.{Field, Absent}
 

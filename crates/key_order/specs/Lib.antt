@@ -1,3 +1,11 @@
 pub mod KeyBytes
 pub mod KeyFields
 pub mod GivenValues
+pub use Rattle.file_model.specs.KeyOrder
+pub use Rattle.file_model.specs.Paths
+pub use Rattle.file_model.specs.Selection
+pub use Rattle.file_model.specs.Sorting
+pub use Rattle.file_model.specs.Views
+pub use Rattle.key_pages.specs.EntryList
+pub use Rattle.key_pages.specs.Order
+pub use Rattle.key_pages.specs.Position

@@ -1,6 +1,6 @@
 //! The bytes of texts and of numbers at a position, written behind what stands before them. None of it takes memory.
 ghost use Rattle.std.specs.Prelude.{◌≡◌, ◌+◌, ◌^◌, ◌<◌, ◌≤◌, ◌∷◌, [], ◌++◌, length, replicate, unsigned_abs, vec_len, vec_capacity};
-ghost use Rattle.field_values.specs.FieldTypes.{packed_width};
+ghost use Rattle.field_laws.specs.FieldTypes.{packed_width};
 ghost use Rattle.key_order.specs.KeyBytes.{turned, number_bytes, middle, from_middle};
 
 use crate::widths::number_width;

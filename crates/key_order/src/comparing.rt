@@ -1,14 +1,14 @@
 //! The order of the keys of two images, from the images alone.
 ghost use Rattle.std.specs.Prelude.{◌≡◌, Some, true, is_some, length, if◌then◌else◌};
 ghost use Rattle.field_types.specs.declared.values.Value.{Value};
-ghost use Rattle.field_values.specs.FieldTypes.{IsFieldType, width};
-ghost use Rattle.field_values.specs.FieldBytes.{held};
+ghost use Rattle.field_laws.specs.FieldTypes.{IsFieldType, width};
+ghost use Rattle.field_laws.specs.FieldBytes.{held};
 ghost use Rattle.file_model.specs.KeyOrder.{absolute, compare_values, compare_key_values, compare_keys, key_value, key_of};
 ghost use Rattle.key_order.specs.KeyFields.{HasPosition, HasKey};
 
 use crate::positions::{bytes_of, number_held};
+use field_laws::field_values::fields;
 use field_types::kinds::FieldType;
-use field_values::fields;
 use key_spec::KeyPart;
 use std::cmp::Ordering;
 

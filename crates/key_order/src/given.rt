@@ -8,9 +8,9 @@ ghost use Rattle.key_order.specs.GivenValues.{part_fault, key_fault};
 
 use crate::positions::put_given;
 use crate::widths::{MOST_POSITIONS, bound};
+use field_laws::field_values::fields;
 use field_types::faults::{RecordFault, ValueFault};
 use field_types::values::Value;
-use field_values::fields;
 use key_pages::Key;
 use key_spec::KeyPart;
 use std::alloc::{AllocError, Global};

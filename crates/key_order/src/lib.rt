@@ -8,3 +8,6 @@ pub mod given;
 pub mod laws;
 mod positions;
 pub mod widths;
+
+pub use file_model;
+pub use key_pages;

@@ -1,18 +1,18 @@
 //! The bytes of one position of a key, of an image's field or of a given value.
 ghost use Rattle.std.specs.Prelude.{◌≡◌, ◌+◌, ◌<◌, ◌≤◌, ◌^◌, ◌++◌, None, Some, true, is_some, length, pos, unsigned_abs, vec_len, vec_capacity, if◌then◌else◌};
 ghost use Rattle.field_types.specs.declared.values.Value.{Value};
-ghost use Rattle.field_values.specs.FieldTypes.{IsFieldType, width, is_numeric};
-ghost use Rattle.field_values.specs.FieldBytes.{held, as_held, fault_of, decimal, filled};
-ghost use Rattle.field_values.specs.FirstBad.{part};
+ghost use Rattle.field_laws.specs.FieldTypes.{IsFieldType, width, is_numeric};
+ghost use Rattle.field_laws.specs.FieldBytes.{held, as_held, fault_of, decimal, filled};
+ghost use Rattle.field_laws.specs.FirstBad.{part};
 ghost use Rattle.file_model.specs.KeyOrder.{absolute, key_value, given_value};
 ghost use Rattle.key_order.specs.KeyBytes.{digits_of, position_bytes, turned};
 ghost use Rattle.key_order.specs.KeyFields.{HasPosition, IsPosition, position_width};
 ghost use Rattle.key_order.specs.GivenValues.{part_fault};
 
 use crate::bytes::{put_blanks, put_number, put_text};
+use field_laws::field_values::fields;
 use field_types::kinds::FieldType;
 use field_types::values::Value;
-use field_values::fields;
 use key_spec::KeyPart;
 
 /// The first byte of a position that is missing.

@@ -1,7 +1,7 @@
 //! How many bytes a key has.
 ghost use Rattle.std.specs.Prelude.{◌≡◌, ◌+◌, ◌≤◌, ◌<◌, ℕ, List, None, length};
 ghost use Rattle.field_types.specs.declared.values.Value.{Value};
-ghost use Rattle.field_values.specs.FieldTypes.{packed_width};
+ghost use Rattle.field_laws.specs.FieldTypes.{packed_width};
 ghost use Rattle.key_order.specs.KeyBytes.{encoded, encoded_values};
 ghost use Rattle.key_order.specs.KeyFields.{HasKey, value_width, position_width, key_width};
 ghost use Rattle.key_order.specs.GivenValues.{key_fault};

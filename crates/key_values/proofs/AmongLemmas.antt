@@ -5,7 +5,7 @@ use Rattle.std.specs.List.{AllByRecursion}
 use Rattle.std.proofs.lemmas.List.Elements.{recursion_from_All}
 use Rattle.key_spec.specs.declared.KeyPart.{KeyPart}
 use Rattle.key_spec.specs.declared.KeyPart.TheVariants.{Field, Absent}
-use Rattle.file_model.specs.KeyOrder.{either_part, either_parts, merged_parts}
+use Rattle.key_order.specs.KeyOrder.{either_part, either_parts, merged_parts}
 use Rattle.key_order.specs.KeyFields.{MatchesAt, Matches, value_width, position_width, key_width}
 use Rattle.key_values.specs.KeyValues.{IsAmong, AreAmong}
 

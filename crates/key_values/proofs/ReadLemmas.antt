@@ -11,7 +11,7 @@ use Rattle.field_values.specs.Digits.{number_in}
 use Rattle.field_values.proofs.DigitLemmas.{number_in-digits_in_all}
 use Rattle.key_spec.specs.declared.KeyPart.{KeyPart}
 use Rattle.key_spec.specs.declared.KeyPart.TheVariants.{Field, Absent}
-use Rattle.file_model.specs.KeyOrder.{KeyValue, Missing, Ascending, Descending}
+use Rattle.key_order.specs.KeyOrder.{KeyValue, Missing, Ascending, Descending}
 use Rattle.key_order.specs.KeyBytes.{middle, from_middle, number_bytes, value_bytes, turned, digits_of, position_bytes, key_bytes}
 use Rattle.key_order.specs.KeyFields.{value_width}
 use Rattle.key_order.specs.GivenValues.{IsOfBytes}

@@ -8,7 +8,7 @@ use Rattle.field_values.specs.FieldBytes.{decimal}
 use Rattle.field_values.specs.Digits.{number_in}
 use Rattle.key_spec.specs.declared.KeyPart.{KeyPart}
 use Rattle.key_spec.specs.declared.KeyPart.TheVariants.{Field, Absent}
-use Rattle.file_model.specs.KeyOrder.{KeyValue, Missing, Ascending, Descending}
+use Rattle.key_order.specs.KeyOrder.{KeyValue, Missing, Ascending, Descending}
 use Rattle.key_order.specs.KeyBytes.{middle, turned}
 use Rattle.key_order.specs.KeyFields.{value_width}
 

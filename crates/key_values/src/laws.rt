@@ -2,7 +2,7 @@
 ghost use Rattle.std.specs.Prelude.{◌≡◌, ◌≤◌, ℕ, List, None, All, AllPairs, length};
 ghost use Rattle.field_types.specs.declared.values.Value.{Value};
 ghost use Rattle.key_spec.specs.declared.KeyPart.{KeyPart};
-ghost use Rattle.file_model.specs.KeyOrder.{key_of, given_key, merged_parts};
+ghost use Rattle.key_order.specs.KeyOrder.{key_of, given_key, merged_parts};
 ghost use Rattle.key_order.specs.KeyBytes.{encoded, encoded_values};
 ghost use Rattle.key_order.specs.KeyFields.{AreBytes, ArePositions, HasKey, Matches, key_width};
 ghost use Rattle.key_order.specs.GivenValues.{IsOfBytes, key_fault};

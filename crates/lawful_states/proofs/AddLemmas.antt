@@ -5,16 +5,16 @@ use Rattle.std.proofs.lemmas.Bool.{cases_eq}
 use Rattle.std.proofs.lemmas.Bool.Decides.{nat_tests}
 use Rattle.member_slots.specs.Member.{empty_member}
 use Rattle.member_slots.specs.Members.{member_at, put_member}
-use Rattle.record_fmt.specs.Layout.{record_length}
+use Rattle.library_steps.specs.Layout.{record_length}
 use Rattle.lawful_states.specs.Owners.{Owns, has_number}
 use Rattle.lawful_states.proofs.NameLemmas.{same_name-equal, some-equal}
 use Rattle.lawful_states.proofs.ChangeLemmas.{named-file_changed, changed-from}
 use Rattle.lawful_states.proofs.StatusLemmas.{has_number-push}
-use Rattle.library_model.specs.Named.{named, same_name}
+use Rattle.library_steps.specs.Named.{named, same_name}
 use Rattle.library_steps.specs.State.{State, FileState, fields_of, physical_among}
 use Rattle.library_steps.specs.MemberCommands.{file_changed, with_member_name}
-use Rattle.journal_model.specs.Replay.{before_of}
-use Rattle.journal_model.specs.Rollback.{MemberChange}
+use Rattle.library_steps.specs.Replay.{before_of}
+use Rattle.library_steps.specs.Rollback.{MemberChange}
 use Rattle.lawful_states.specs.Lawful.{HoldsValues, IsThere, GoesBack, AreOne}
 use Rattle.lawful_states.proofs.MemberLemmas.{item_at-put_item_other, item_at-put_item_same}
 use Rattle.lawful_states.proofs.BaseLemmas.{AreBased-wider, OpenHolds-kept, kept-wider, physical-found}

@@ -5,12 +5,12 @@ use Rattle.std.proofs.lemmas.Bool.{cases_eq}
 use Rattle.std.proofs.lemmas.Bool.Decides.{nat_tests}
 use Rattle.member_slots.specs.Member.{MemberState, FitsSlot, empty_member}
 use Rattle.member_slots.specs.Members.{NumberedMembers, member_at, member_of, with_member}
-use Rattle.journal_model.specs.Replay.{before_of}
-use Rattle.journal_model.specs.Rollback.{MemberChange}
+use Rattle.library_steps.specs.Replay.{before_of}
+use Rattle.library_steps.specs.Rollback.{MemberChange}
 use Rattle.lawful_states.specs.Owners.{Owns}
 use Rattle.lawful_states.specs.Jobs.{cycle_from}
-use Rattle.lock_table.specs.declared.lock.Lock.{Lock}
-use Rattle.library_model.specs.Named.{Named}
+use Rattle.library_steps.below.lock_table.specs.declared.lock.Lock.{Lock}
+use Rattle.library_steps.specs.Named.{Named}
 use Rattle.library_steps.specs.State.{FileState, CycleState, JobState, job_at, or_new, fields_of}
 use Rattle.library_steps.specs.SlotChange.{noted}
 use Rattle.library_steps.specs.Uses.{first_job, changes_in, has_open_over, has_changed, has_boundary_lock, uses}

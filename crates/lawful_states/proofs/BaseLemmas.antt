@@ -2,20 +2,20 @@
 use Rattle.std.proofs.Common.{◌≡◌, ◌⊎◌, inl, inr, ℕ, zero, suc, ◌==◌, ◌||◌, true, false, cond, map, List, [], ◌∷◌, ◌++◌, slice_get, Option, Some, None, is_some, IsSome, unwrap_or, subst, refl, sym, ◌∙◌, ap}
 use Rattle.std.specs.List.{AllByRecursion}
 use Rattle.std.specs.Option.{option_map, option_and_then, option_map_or}
-use Rattle.dds_logical.specs.declared.join_views.JoinView.{JoinView}
-use Rattle.dds_logical.specs.declared.views.LogicalSpec.{LogicalSpec}
-use Rattle.dds_physical.specs.declared.physical_files.PhysicalSpec.{PhysicalSpec}
-use Rattle.file_model.specs.Joins.{RowPlace}
-use Rattle.file_model.specs.Paths.{PathEntry}
-use Rattle.file_model.specs.Positions.{Position}
-use Rattle.lock_table.specs.declared.levels.Call.{Call}
+use Rattle.logical_model.below.dds_logical.specs.declared.join_views.JoinView.{JoinView}
+use Rattle.logical_model.below.dds_logical.specs.declared.views.LogicalSpec.{LogicalSpec}
+use Rattle.library_steps.below.dds_physical.specs.declared.physical_files.PhysicalSpec.{PhysicalSpec}
+use Rattle.library_steps.specs.Joins.{RowPlace}
+use Rattle.library_steps.specs.Paths.{PathEntry}
+use Rattle.library_steps.specs.Positions.{Position}
+use Rattle.library_steps.below.lock_table.specs.declared.levels.Call.{Call}
 use Rattle.logical_model.specs.Bases.{FileSpec, PhysicalFile, LogicalFile, base_names}
 use Rattle.lawful_states.specs.Owners.{has_number}
 use Rattle.lawful_states.specs.Physical.{IsPhysical}
 use Rattle.lawful_states.proofs.ChangeLemmas.{changed-from, named-each_changed, named-file_changed}
 use Rattle.lawful_states.proofs.NameLemmas.{named-append, same_name-equal, same_name-self, some-equal}
 use Rattle.lawful_states.proofs.StatusLemmas.{changed_in, has_number-changed_in, has_number-push}
-use Rattle.library_model.specs.Named.{Named, named, same_name}
+use Rattle.library_steps.specs.Named.{Named, named, same_name}
 use Rattle.library_steps.specs.CreatePhysicalFile.{new_status}
 use Rattle.library_steps.specs.LogicalFiles.{base_in, bases_in}
 use Rattle.library_steps.specs.MemberCommands.{file_changed, with_member_name}

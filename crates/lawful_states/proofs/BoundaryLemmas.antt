@@ -3,10 +3,10 @@ use Rattle.std.proofs.Common.{◌≡◌, ℕ, ◌+◌, if◌then◌else◌, true
 use Rattle.std.specs.List.{AllByRecursion}
 use Rattle.member_slots.specs.Member.{MemberState, changed}
 use Rattle.member_slots.specs.Members.{NumberedMembers, member_of, with_member}
-use Rattle.journal_model.specs.Replay.{before_of}
-use Rattle.journal_model.specs.Rollback.{MemberChange}
-use Rattle.lock_table.specs.declared.lock.Lock.{Lock}
-use Rattle.library_model.specs.Named.{Named}
+use Rattle.library_steps.specs.Replay.{before_of}
+use Rattle.library_steps.specs.Rollback.{MemberChange}
+use Rattle.library_steps.below.lock_table.specs.declared.lock.Lock.{Lock}
+use Rattle.library_steps.specs.Named.{Named}
 use Rattle.library_steps.specs.State.{State, Memory, FileState, CycleState, job_changed, with_opens}
 use Rattle.library_steps.specs.Commitment.{changes_of, rolled_back_open, taken_back, without_cycle}
 use Rattle.library_steps.specs.EndJob.{ended_job}

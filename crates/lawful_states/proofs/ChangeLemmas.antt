@@ -4,7 +4,7 @@ use Rattle.std.proofs.lemmas.Bool.{eqb-true}
 use Rattle.std.specs.List.{AllByRecursion, IsDistinct}
 use Rattle.std.specs.Option.{option_map}
 use Rattle.std.specs.Map.{keys_of, set_value}
-use Rattle.library_model.specs.Named.{Named, named, same_name}
+use Rattle.library_steps.specs.Named.{Named, named, same_name}
 use Rattle.library_steps.specs.State.{FileState, MemberStatus, status_changed}
 use Rattle.library_steps.specs.DeleteFile.{without_file}
 use Rattle.library_steps.specs.MemberCommands.{with_member_name, file_changed}

@@ -5,9 +5,9 @@ use Rattle.std.specs.Option.{option_and_then}
 use Rattle.std.proofs.lemmas.Bool.{eqb-true}
 use Rattle.std.proofs.lemmas.Bool.Decides.{nat_tests}
 use Rattle.std.proofs.lemmas.List.Elements.{recursion_from_All}
-use Rattle.journal_model.specs.Rollback.{MemberChange}
-use Rattle.dds_logical.specs.declared.views.LogicalSpec.{LogicalSpec}
-use Rattle.lock_table.specs.declared.lock.Lock.{Lock}
+use Rattle.library_steps.specs.Rollback.{MemberChange}
+use Rattle.logical_model.below.dds_logical.specs.declared.views.LogicalSpec.{LogicalSpec}
+use Rattle.library_steps.below.lock_table.specs.declared.lock.Lock.{Lock}
 use Rattle.logical_model.specs.Bases.{FileSpec, PhysicalFile, LogicalFile, base_members, base_names}
 use Rattle.member_slots.specs.Member.{MemberState, empty_member}
 use Rattle.member_slots.specs.Members.{Numbered, NumberedMembers, AreMembers, member_at, member_of, without_member}
@@ -16,7 +16,7 @@ use Rattle.lawful_states.specs.Physical.{IsPhysical, AllArePhysical}
 use Rattle.lawful_states.proofs.PhysicalLemmas.{physical-named}
 use Rattle.lawful_states.proofs.NameLemmas.{same_name-equal, same_name-self, some-equal, named-without, named-without_other}
 use Rattle.lawful_states.proofs.StatusLemmas.{has_number-cons}
-use Rattle.library_model.specs.Named.{Named, named, same_name}
+use Rattle.library_steps.specs.Named.{Named, named, same_name}
 use Rattle.library_steps.specs.State.{State, Memory, FileState, MemberStatus, OpenState, JobState, memory_of, fields_of, if_physical, physical_among}
 use Rattle.library_steps.specs.DeleteFile.{depends_by, file_refers, first_dependent, user_by, without_file, without_members}
 use Rattle.library_steps.specs.LogicalFiles.{base_in, bases_in}

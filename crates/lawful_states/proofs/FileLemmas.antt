@@ -5,20 +5,20 @@ use Rattle.std.specs.Map.{keys_of}
 use Rattle.std.proofs.lemmas.Bool.Decides.{nat_tests}
 use Rattle.member_slots.specs.Member.{MemberState, empty_member}
 use Rattle.member_slots.specs.Members.{NumberedMembers, member_at, put_member}
-use Rattle.record_fmt.specs.Layout.{record_length}
-use Rattle.dds_physical.specs.declared.physical_files.PhysicalSpec.{PhysicalSpec}
+use Rattle.library_steps.specs.Layout.{record_length}
+use Rattle.library_steps.below.dds_physical.specs.declared.physical_files.PhysicalSpec.{PhysicalSpec}
 use Rattle.logical_model.specs.Bases.{FileSpec, PhysicalFile, LogicalFile}
 use Rattle.lawful_states.specs.Owners.{Owns, has_number}
 use Rattle.lawful_states.specs.Physical.{IsPhysical}
 use Rattle.lawful_states.proofs.NameLemmas.{named-append}
 use Rattle.lawful_states.proofs.OwnerLemmas.{unowned-status}
-use Rattle.library_model.specs.Named.{Named, named, same_name}
+use Rattle.library_steps.specs.Named.{Named, named, same_name}
 use Rattle.library_steps.specs.State.{State, FileState, MemberStatus, fields_of}
 use Rattle.library_steps.specs.CreatePhysicalFile.{new_status}
 use Rattle.library_steps.specs.Ranges.{library_bytes}
 use Rattle.library_steps.specs.SlotChange.{status_among}
-use Rattle.journal_model.specs.Replay.{before_of}
-use Rattle.journal_model.specs.Rollback.{MemberChange}
+use Rattle.library_steps.specs.Replay.{before_of}
+use Rattle.library_steps.specs.Rollback.{MemberChange}
 use Rattle.lawful_states.specs.Lawful.{HoldsValues, IsThere, IsBased, GoesBack, IsLibrary, AreOne}
 use Rattle.lawful_states.proofs.MemberLemmas.{item_at-put_item_other, item_at-put_item_same, IsThere-is_some, library_bytes-cons}
 use Rattle.lawful_states.specs.Slots.{weight}

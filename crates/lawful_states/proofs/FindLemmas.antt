@@ -6,8 +6,8 @@ use Rattle.logical_model.specs.Bases.{Base, FileSpec, PhysicalFile, LogicalFile,
 use Rattle.lawful_states.specs.Owners.{Owns, has_number}
 use Rattle.lawful_states.specs.Physical.{IsPhysical}
 use Rattle.lawful_states.proofs.StatusLemmas.{has_number-cons}
-use Rattle.library_model.specs.declared.replies.Reply.{Reply}
-use Rattle.library_model.specs.Named.{Named, named, same_name}
+use Rattle.library_steps.below.library_model.specs.declared.replies.Reply.{Reply}
+use Rattle.library_steps.specs.Named.{Named, named, same_name}
 use Rattle.library_steps.specs.Refusals.{found}
 use Rattle.library_steps.specs.LogicalFiles.{bases_in}
 use Rattle.library_steps.specs.State.{State, FileState, MemberStatus, OpenState, JobState, fields_of, memory_of, open_named, job_at, or_new, physical_among}

@@ -7,23 +7,23 @@ use Rattle.member_slots.specs.declared.slot.Slot.{Slot}
 use Rattle.member_slots.specs.declared.slot.Slot.TheVariants.{Live}
 use Rattle.member_slots.specs.Member.{MemberState, appended, changed}
 use Rattle.member_slots.specs.Members.{member_at, member_of, with_member}
-use Rattle.journal_model.specs.Replay.{before_of}
+use Rattle.library_steps.specs.Replay.{before_of}
 use Rattle.lawful_states.specs.Owners.{Owns, has_number}
 use Rattle.lawful_states.proofs.ChangeLemmas.{changed-from}
 use Rattle.lawful_states.proofs.StatusLemmas.{has_number-changed_in, after-number}
 use Rattle.lawful_states.specs.Statuses.{after}
 use Rattle.lawful_states.specs.declared.changes.StatusChange.{StatusChange}
 use Rattle.entry_codec.specs.declared.entries.Entry.{Entry}
-use Rattle.lock_table.specs.declared.lock.Lock.{Lock}
+use Rattle.library_steps.below.lock_table.specs.declared.lock.Lock.{Lock}
 use Rattle.lawful_states.specs.Jobs.{HasBegun, AreOfJobs}
-use Rattle.library_model.specs.Named.{Named, named, same_name}
-use Rattle.library_model.specs.declared.requests.OpenFile.{OpenFile}
-use Rattle.lock_table.specs.declared.levels.Call.TheVariants.{Commit, EndCommitment, EndJob}
-use Rattle.lock_table.specs.Lock.{is_of_group}
-use Rattle.lock_table.specs.Table.{freed}
+use Rattle.library_steps.specs.Named.{Named, named, same_name}
+use Rattle.library_steps.below.library_model.specs.declared.requests.OpenFile.{OpenFile}
+use Rattle.library_steps.below.lock_table.specs.declared.levels.Call.TheVariants.{Commit, EndCommitment, EndJob}
+use Rattle.library_steps.specs.Lock.{is_of_group}
+use Rattle.library_steps.specs.Table.{freed}
 use Rattle.commit_level.specs.declared.Level.{Level}
 use Rattle.commit_level.specs.declared.Level.TheVariants as levels
-use Rattle.lock_table.specs.Levels.{locks_after}
+use Rattle.library_steps.specs.Levels.{locks_after}
 use Rattle.logical_model.specs.Bases.{FileSpec}
 use Rattle.library_steps.specs.State.{State, Receivers, FileState, OpenState, CycleState, JobState, empty_library, memory_of, job_of, job_changed, with_opens, status_changed, new_job, fields_of, format_in}
 use Rattle.library_steps.specs.declared.limits.TheConstants.{MOST_LIBRARY_BYTES}
@@ -37,7 +37,7 @@ use Rattle.library_steps.specs.Locking.{is_committed}
 use Rattle.library_steps.specs.EndJob.{ended_job, job_ended}
 use Rattle.library_steps.specs.Uses.{user_of}
 use Rattle.lawful_states.specs.Lawful.{HoldsValues, OpenHolds, OpensHold, HasRecords, IsThere, CycleGoesBack, AllGoBack, IsLibrary, AreOne}
-use Rattle.record_fmt.specs.declared.formats.Field.{Field}
+use Rattle.library_steps.below.record_fmt.specs.declared.formats.Field.{Field}
 use Rattle.lawful_states.specs.Slots.{MayStand, weight}
 use Rattle.lawful_states.proofs.MemberLemmas.{at-member_of, is_some-IsSome, IsThere-with_member, HasRecords-member_of, HasRecords-appended, HasRecords-changed, numbers-with_member, library_bytes-with, weight-appended, weight-changed, length-push, length-changed, record_length-changed}
 use Rattle.lawful_states.proofs.BaseLemmas.{AreBased-each, Keeps, Keeps-status, OpenHolds-alike, OpenHolds-kept, kept-each}

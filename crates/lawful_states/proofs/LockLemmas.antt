@@ -7,20 +7,20 @@ use Rattle.std.proofs.lemmas.Bool.Decides.{nat_tests}
 use Rattle.std.proofs.lemmas.List.Elements.{All-nil, All-cons, All-head, All-tail, All-filter}
 use Rattle.commit_level.specs.declared.Level.{Level}
 use Rattle.commit_level.specs.declared.Level.TheVariants as levels
-use Rattle.lock_table.specs.declared.lock.Lock.{Lock}
-use Rattle.lock_table.specs.declared.lock.LockKind.{LockKind}
-use Rattle.lock_table.specs.declared.lock.Holder.{Holder}
-use Rattle.lock_table.specs.declared.lock.RecordId.{RecordId}
-use Rattle.lock_table.specs.declared.lock.Reach.{Reach}
-use Rattle.lock_table.specs.declared.lock.Reach.TheVariants.{Open, Boundary}
-use Rattle.lock_table.specs.declared.levels.Call.{Call}
-use Rattle.lock_table.specs.declared.levels.Call.TheVariants.{InputRead, UpdateRead, Update, Delete, Write, WriteAt, Unlock, Position, Close, Commit, Rollback, EndCommitment, EndJob}
-use Rattle.lock_table.specs.declared.levels.Wanted.{Wanted}
-use Rattle.lock_table.specs.declared.levels.OpenLocks.{OpenLocks}
-use Rattle.lock_table.specs.declared.levels.OpenLocks.TheVariants.{Stay, OfOpen, OfRecord, OfCommitted, OfJob}
-use Rattle.lock_table.specs.Lock.{blocks, lock_by, lock_cmp, is_of_open, is_of_record, is_of_opens, is_of_job, is_of_group, update_kind}
-use Rattle.lock_table.specs.Table.{with_item, without_lock, with_lock_by, freed, blocker, least_job}
-use Rattle.lock_table.specs.Levels.{asked, gained, released, without_open_locks, without_boundary_locks, with_wanted, locks_after}
+use Rattle.library_steps.below.lock_table.specs.declared.lock.Lock.{Lock}
+use Rattle.library_steps.below.lock_table.specs.declared.lock.LockKind.{LockKind}
+use Rattle.library_steps.below.lock_table.specs.declared.lock.Holder.{Holder}
+use Rattle.library_steps.below.lock_table.specs.declared.lock.RecordId.{RecordId}
+use Rattle.library_steps.below.lock_table.specs.declared.lock.Reach.{Reach}
+use Rattle.library_steps.below.lock_table.specs.declared.lock.Reach.TheVariants.{Open, Boundary}
+use Rattle.library_steps.below.lock_table.specs.declared.levels.Call.{Call}
+use Rattle.library_steps.below.lock_table.specs.declared.levels.Call.TheVariants.{InputRead, UpdateRead, Update, Delete, Write, WriteAt, Unlock, Position, Close, Commit, Rollback, EndCommitment, EndJob}
+use Rattle.library_steps.below.lock_table.specs.declared.levels.Wanted.{Wanted}
+use Rattle.library_steps.below.lock_table.specs.declared.levels.OpenLocks.{OpenLocks}
+use Rattle.library_steps.below.lock_table.specs.declared.levels.OpenLocks.TheVariants.{Stay, OfOpen, OfRecord, OfCommitted, OfJob}
+use Rattle.library_steps.specs.Lock.{blocks, lock_by, lock_cmp, is_of_open, is_of_record, is_of_opens, is_of_job, is_of_group, update_kind}
+use Rattle.library_steps.specs.Table.{with_item, without_lock, with_lock_by, freed, blocker, least_job}
+use Rattle.library_steps.specs.Levels.{asked, gained, released, without_open_locks, without_boundary_locks, with_wanted, locks_after}
 use Rattle.lawful_states.specs.Jobs.{HasBegun}
 use Rattle.library_steps.specs.State.{JobState, job_at}
 use Rattle.library_steps.specs.History.{is_running}

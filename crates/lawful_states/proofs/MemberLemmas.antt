@@ -9,7 +9,7 @@ use Rattle.member_slots.specs.declared.slot.Slot.{Slot}
 use Rattle.member_slots.specs.declared.slot.Slot.TheVariants.{Live, Deleted}
 use Rattle.member_slots.specs.Member.{MemberState, empty_member, appended, changed, cleared, is_live, reorganized, slot_at}
 use Rattle.member_slots.specs.Members.{Numbered, NumberedMembers, item_at, put_item, with_item, without_item, member_at, member_of, with_member}
-use Rattle.record_fmt.specs.declared.formats.Field.{Field}
+use Rattle.library_steps.below.record_fmt.specs.declared.formats.Field.{Field}
 use Rattle.library_steps.specs.Ranges.{library_bytes}
 use Rattle.library_steps.specs.SlotChange.{slot_put}
 use Rattle.lawful_states.specs.Lawful.{HoldsValues, HasRecords, IsThere}

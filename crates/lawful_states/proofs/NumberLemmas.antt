@@ -3,7 +3,7 @@ use Rattle.std.proofs.Common.{◌≡◌, ◌≤◌, ◌<◌, ℕ, zero, suc, ◌
 use Rattle.std.specs.List.{find}
 use Rattle.std.specs.Option.{option_map}
 use Rattle.entry_codec.specs.declared.entries.Entry.{Entry}
-use Rattle.journal_model.specs.Journal.{AreNumbered}
+use Rattle.library_steps.specs.Journal.{AreNumbered}
 use Rattle.library_steps.specs.Receivers.{last_in, is_number, next_receiver}
 
 pub numbered-more : (first : ℕ) (entries : List Entry) (new : Entry) → AreNumbered first entries → new.sequence ≡ first + length entries → AreNumbered first (entries ++ new ∷ [])

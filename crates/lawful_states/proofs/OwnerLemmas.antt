@@ -3,7 +3,7 @@ use Rattle.std.proofs.Common.{◌≡◌, ℕ, true, false, cond, List, [], ◌�
 use Rattle.std.specs.List.{AllByRecursion, IsDistinct}
 use Rattle.std.specs.Option.{is_some, option_and_then}
 use Rattle.std.specs.Map.{keys_of}
-use Rattle.library_model.specs.Named.{Named, named, same_name}
+use Rattle.library_steps.specs.Named.{Named, named, same_name}
 use Rattle.library_steps.specs.State.{FileState}
 use Rattle.library_steps.specs.SlotChange.{status_in, status_among}
 use Rattle.lawful_states.specs.Owners.{has_number, owner, status_of, Owns, AreApart, IsOwned}

@@ -2,8 +2,8 @@
 use Rattle.std.specs.Prelude.{◌+◌, List, [], ◌∷◌}
 use Rattle.member_slots.specs.Member.{changed}
 use Rattle.member_slots.specs.Members.{NumberedMembers, member_of, with_member}
-use Rattle.journal_model.specs.Replay.{before_of}
-use Rattle.journal_model.specs.Rollback.{MemberChange}
+use Rattle.library_steps.specs.Replay.{before_of}
+use Rattle.library_steps.specs.Rollback.{MemberChange}
 
 -- the members with one change taken back
 abbrev pub member_back : MemberChange → NumberedMembers → NumberedMembers

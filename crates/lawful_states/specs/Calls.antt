@@ -1,8 +1,8 @@
 -- Which calls read, which write, which are on a record through an open, and which of these ask for no lock. (Db2 for i, record locks; Commitment Control.)
-use Rattle.lock_table.specs.declared.levels.Call.{Call}
-use Rattle.lock_table.specs.declared.levels.Call.TheVariants.{InputRead, UpdateRead, Update, Delete, Write, WriteAt, Unlock, Position, Close, Commit, Rollback, EndCommitment, EndJob}
-use Rattle.lock_table.specs.declared.levels.OpenLocks.{OpenLocks}
-use Rattle.lock_table.specs.declared.levels.OpenLocks.TheVariants.{Stay, OfOpen, OfRecord, OfCommitted, OfJob}
+use Rattle.library_steps.below.lock_table.specs.declared.levels.Call.{Call}
+use Rattle.library_steps.below.lock_table.specs.declared.levels.Call.TheVariants.{InputRead, UpdateRead, Update, Delete, Write, WriteAt, Unlock, Position, Close, Commit, Rollback, EndCommitment, EndJob}
+use Rattle.library_steps.below.lock_table.specs.declared.levels.OpenLocks.{OpenLocks}
+use Rattle.library_steps.below.lock_table.specs.declared.levels.OpenLocks.TheVariants.{Stay, OfOpen, OfRecord, OfCommitted, OfJob}
 
 abbrev pub IsRead : Call → Type 0
 IsRead InputRead = Unit {0}

@@ -1,7 +1,7 @@
 -- Which jobs have begun, whose locks are kept, and the commit cycle that a change belongs to. (Commitment Control.)
 use Rattle.std.specs.Prelude.{ℕ, ◌≤◌, Option, List, [], length, unwrap_or, All}
 use Rattle.library_steps.specs.State.{CycleState, JobState}
-use Rattle.lock_table.specs.declared.lock.Lock.{Lock}
+use Rattle.library_steps.below.lock_table.specs.declared.lock.Lock.{Lock}
 
 -- a commit cycle that begins with this entry
 abbrev pub new_cycle : (sequence : ℕ) → CycleState

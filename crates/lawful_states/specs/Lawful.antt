@@ -7,16 +7,16 @@ use Rattle.member_slots.specs.declared.slot.Slot.{Slot}
 use Rattle.member_slots.specs.declared.slot.Slot.TheVariants.{Live, Deleted}
 use Rattle.member_slots.specs.Member.{MemberState, FitsSlot}
 use Rattle.member_slots.specs.Members.{NumberedMembers, member_at, member_of}
-use Rattle.journal_model.specs.Replay.{before_of}
-use Rattle.journal_model.specs.Rollback.{MemberChange}
-use Rattle.record_fmt.specs.declared.formats.Field.{Field}
-use Rattle.record_fmt.specs.Layout.{record_length}
-use Rattle.record_fmt.specs.Records.{record_held}
-use Rattle.dds_logical.specs.declared.views.LogicalSpec.{LogicalSpec}
+use Rattle.library_steps.specs.Replay.{before_of}
+use Rattle.library_steps.specs.Rollback.{MemberChange}
+use Rattle.library_steps.below.record_fmt.specs.declared.formats.Field.{Field}
+use Rattle.library_steps.specs.Layout.{record_length}
+use Rattle.library_steps.specs.RecordFmtRecords.{record_held}
+use Rattle.logical_model.below.dds_logical.specs.declared.views.LogicalSpec.{LogicalSpec}
 use Rattle.logical_model.specs.Bases.{FileSpec, PhysicalFile, LogicalFile, base_names, base_members}
 use Rattle.lawful_states.specs.Owners.{Owns, has_number}
 use Rattle.lawful_states.specs.Jobs.{AreOfJobs}
-use Rattle.library_model.specs.Named.{Named, named}
+use Rattle.library_steps.specs.Named.{Named, named}
 use Rattle.library_steps.specs.declared.limits.TheConstants.{MOST_LIBRARY_BYTES}
 use Rattle.library_steps.specs.State.{State, FileState, MemberStatus, OpenState, CycleState, JobState, fields_of, physical_among}
 use Rattle.library_steps.specs.LogicalFiles.{bases_in}

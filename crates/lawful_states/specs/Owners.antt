@@ -2,7 +2,7 @@
 use Rattle.std.specs.Prelude.{◌≡◌, ℕ, Bool, true, nat_eq, Option, Some, None, List, [], ◌∷◌, map, if◌then◌else◌}
 use Rattle.std.specs.List.{IsDistinct}
 use Rattle.std.specs.Option.{is_some, option_and_then}
-use Rattle.library_model.specs.Named.{Named, named}
+use Rattle.library_steps.specs.Named.{Named, named}
 use Rattle.library_steps.specs.State.{FileState, MemberStatus}
 use Rattle.library_steps.specs.SlotChange.{status_in}
 

@@ -1,7 +1,7 @@
 -- Files that are physical ones. (DDS for Physical and Logical Files.)
 use Rattle.std.specs.List.{AllByRecursion}
 use Rattle.logical_model.specs.Bases.{FileSpec, PhysicalFile, LogicalFile}
-use Rattle.library_model.specs.Named.{Named}
+use Rattle.library_steps.specs.Named.{Named}
 use Rattle.library_steps.specs.State.{FileState}
 
 abbrev pub IsPhysical : FileSpec → Type 0

@@ -3,3 +3,5 @@
 #![tactic(auto)]
 
 pub mod changes;
+
+pub use library_steps;

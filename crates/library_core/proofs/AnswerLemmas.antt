@@ -23,10 +23,10 @@ use Rattle.library_steps.specs.State.{Receivers, State, job_at, memory_of}
 use Rattle.library_steps.specs.Change.{Change}
 use Rattle.library_steps.specs.History.{is_running}
 use Rattle.library_steps.specs.Step.{change, step}
-use Rattle.library_parts.specs.Answers.{Answers}
-use Rattle.library_parts.specs.declared.stop.Stop.{Stop}
-use Rattle.library_parts.specs.declared.stop.Stop.TheVariants as stop
-use Rattle.deposited_entries.specs.Deposits.{AreShort, switches}
+use Rattle.commitment_requests.specs.Answers.{Answers}
+use Rattle.commitment_requests.below.library_parts.specs.declared.stop.Stop.{Stop}
+use Rattle.commitment_requests.below.library_parts.specs.declared.stop.Stop.TheVariants as stop
+use Rattle.journal_fronts.specs.Deposits.{AreShort, switches}
 use Rattle.forced_calls.proofs.ForcedLemmas.{asked}
 use Rattle.joint_state.specs.Sound.{Does, IsSound, after}
 use Rattle.sound_histories.proofs.HistoryLemmas.{AnswersStaySound}

@@ -29,7 +29,7 @@ use Rattle.library_steps.specs.SlotChange.{NewSlot, change_made, cycle_for, slot
 use Rattle.library_steps.specs.State.{CycleState, Memory, State, job_of, memory_of, with_status}
 use Rattle.library_steps.specs.Step.{change}
 use Rattle.library_steps.specs.WriteRecord.{write_call, write_change}
-use Rattle.deposited_entries.specs.Deposits.{switches}
+use Rattle.journal_fronts.specs.Deposits.{switches}
 use Rattle.library_core.specs.Laws.{is_fault}
 use Rattle.library_core.proofs.ResultLemmas.{bind-ok, not-refused}
 

@@ -8,7 +8,7 @@ use Rattle.receiver_chain.proofs.Others.{roots_here}
 use Rattle.journal_book.specs.Book.{BookState, HasMoreRoom}
 use Rattle.journal_book.specs.Kept.{IsForcedOrFrom}
 use Rattle.journal_book.proofs.Forcing.{none_exactly}
-use Rattle.deposited_entries.specs.Deposits.{switches}
+use Rattle.journal_fronts.specs.Deposits.{switches}
 use Rattle.built_requests.specs.Built.{is_built}
 use Rattle.library_model.specs.NeedsMemory.{needs_memory}
 use Rattle.library_model.specs.declared.calls.Call.{Call}
@@ -20,8 +20,8 @@ use Rattle.library_steps.specs.State.{Memory, State, job_at, memory_of}
 use Rattle.library_steps.specs.Change.{Change, changed}
 use Rattle.library_steps.specs.History.{is_running}
 use Rattle.library_steps.specs.Step.{change, step}
-use Rattle.library_parts.specs.declared.stop.Stop.{Stop}
-use Rattle.library_parts.specs.declared.stop.Stop.TheVariants as stop
+use Rattle.commitment_requests.below.library_parts.specs.declared.stop.Stop.{Stop}
+use Rattle.commitment_requests.below.library_parts.specs.declared.stop.Stop.TheVariants as stop
 use Rattle.joint_state.specs.Sound.{IsSound, after}
 use Rattle.sound_histories.proofs.HistoryLemmas.{AnswersStaySound}
 use Rattle.journal_fronts.specs.Fronts.{IsAcknowledged}

@@ -2,7 +2,7 @@
 use Rattle.std.proofs.Common.{◌≡◌, true, refl}
 use Rattle.library_model.specs.declared.requests.Request.{Request}
 use Rattle.library_model.specs.declared.requests.Request.TheVariants as requests
-use Rattle.deposited_entries.specs.Deposits.{switches}
+use Rattle.journal_fronts.specs.Deposits.{switches}
 
 pub is-switch : (r : Request) → switches r ≡ true → r ≡ requests.ChangeJournal
 is-switch (requests.CreatePhysicalFile args) h = absurd cc

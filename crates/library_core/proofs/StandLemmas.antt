@@ -7,7 +7,7 @@ use Rattle.library_steps.specs.Uses.{changes_in}
 use Rattle.joint_state.specs.Cycles as cycles
 use Rattle.joint_state.specs.Sound.{IsSound}
 use Rattle.lawful_states.specs.Back.{member_back}
-use Rattle.library_parts.specs.Standing.{StandAsMade}
+use Rattle.commitment_requests.specs.Standing.{StandAsMade}
 
 stand-same : (undos : List MemberChange) (members : NumberedMembers) → cycles.StandAsMade undos members → StandAsMade undos members
 stand-same [] members stand = tt

@@ -1,3 +1,5 @@
 pub mod Running
 pub mod Puts
 pub mod Laws
+pub use Rattle.kept_library.specs.Parts
+pub use Rattle.kept_library.specs.Stands

@@ -1,17 +1,18 @@
 //! What a request asks for: each of them of the crate that does it, but for CHGJRN, which `answering.rt` does step by step.
 ghost use Rattle.std.specs.Prelude.{◌≡◌, false, IsTrue, IsErrOf};
 ghost use Rattle.built_requests.specs.Built.{is_built};
-ghost use Rattle.deposited_entries.specs.Deposits.{switches};
+ghost use Rattle.journal_fronts.specs.Deposits.{switches};
 ghost use Rattle.library_model.specs.NeedsMemory.{needs_memory};
 ghost use Rattle.library_steps.specs.State.{memory_of, job_at, job_of};
 ghost use Rattle.library_steps.specs.History.{is_running};
 ghost use Rattle.library_steps.specs.Step.{change};
 ghost use Rattle.library_steps.specs.Uses.{changes_in};
 ghost use Rattle.joint_state.specs.Views.{HaveDefaults};
-ghost use Rattle.library_parts.specs.Answers.{Answers};
-ghost use Rattle.library_parts.specs.Standing.{StandAsMade};
-ghost use Rattle.library_parts.specs.declared.stop.Stop.TheVariants.{NoMemory};
+ghost use Rattle.commitment_requests.specs.Answers.{Answers};
+ghost use Rattle.commitment_requests.specs.Standing.{StandAsMade};
+ghost use Rattle.commitment_requests.below.library_parts.specs.declared.stop.Stop.TheVariants.{NoMemory};
 
+use commitment_requests::library_parts::{Contents, Stop};
 use commitment_requests::{commit, end_commitment, end_job, rollback, start_commitment};
 use file_requests::{
     add_member, clear_member, close_file, create_logical_file, create_physical_file, delete_file,
@@ -21,7 +22,6 @@ use journal_requests::{delete_receiver, display_journal};
 use library_model::replies::Reply;
 use library_model::requests::Request;
 use library_model::sources::Sources;
-use library_parts::{Contents, Stop};
 use range_requests::{apply_changes, remove_changes};
 use record_changes::{delete_record, unlock, update_record, write_record};
 use record_reads::{

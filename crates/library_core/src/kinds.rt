@@ -1,7 +1,7 @@
 //! What is asked of a request by its kind alone.
 ghost use Rattle.std.specs.Prelude.{◌≡◌};
 ghost use Rattle.library_model.specs.NeedsMemory.{needs_memory};
-ghost use Rattle.deposited_entries.specs.Deposits.{switches};
+ghost use Rattle.journal_fronts.specs.Deposits.{switches};
 
 use library_model::requests::Request;
 

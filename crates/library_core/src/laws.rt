@@ -2,7 +2,7 @@
 ghost use Rattle.library_core.specs.Laws.{DepositsBegin, DepositsStay, EntriesAreSpelled, EntriesMayWait, PlacesBegin, PlacesLast};
 
 use block_places::places_suffice;
-use deposited_entries::{
+use journal_fronts::deposited_entries::{
     deposits_are_inside, deposits_are_numbered, deposits_fit_a_block, deposits_have_spellings,
     groups_stay_within, numbers_stay_counted, sequences_suffice,
 };

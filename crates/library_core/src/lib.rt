@@ -7,6 +7,7 @@ mod kinds;
 mod laws;
 pub mod library;
 
+pub use kept_library;
 pub use library_model::calls::Call;
 pub use library_model::replies::Reply;
 pub use library_model::requests::Request;

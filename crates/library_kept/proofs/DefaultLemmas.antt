@@ -32,7 +32,7 @@ use Rattle.dds_physical.specs.Physical.{draft_of, faults_of, finished, physical_
 use Rattle.dds_physical.specs.References.{reference_file, typed}
 use Rattle.dds_physical.specs.WholeFile.{whole_faults}
 use Rattle.dds_physical.proofs.FaultLemmas.{nothing_noted}
-use Rattle.logical_laws.specs.Mapped.{HoldDefaults}
+use Rattle.joint_state.specs.Mapped.{HoldDefaults}
 use Rattle.library_kept.proofs.FieldLemmas.{typed-allowed, unless-ok}
 use Rattle.library_kept.proofs.ListLemmas.{each-append}
 

@@ -8,11 +8,11 @@ use Rattle.dds_source.specs.declared.faults.DdsFault.{DdsFault}
 use Rattle.dds_source.specs.declared.specifications.Source.{Source}
 use Rattle.dds_source.specs.Reading.{source_of}
 use Rattle.dds_physical.specs.declared.physical_files.PhysicalSpec.{PhysicalSpec}
-use Rattle.dds_logical.specs.declared.views.LogicalSpec.{LogicalSpec}
+use Rattle.logical_model.below.dds_logical.specs.declared.views.LogicalSpec.{LogicalSpec}
 use Rattle.logical_model.specs.Bases.{FileSpec, PhysicalFile, LogicalFile, base_members, base_names}
 use Rattle.logical_model.specs.FilePaths.{logical_paths}
-use Rattle.logical_laws.specs.Mapped.{HoldDefaults}
-use Rattle.logical_laws.proofs.MappedLemmas.{described-mapped, described-there}
+use Rattle.joint_state.specs.Mapped.{HoldDefaults}
+use Rattle.joint_state.proofs.MappedLemmas.{described-mapped, described-there}
 use Rattle.lawful_states.specs.Owners.{Owns, AreApart, has_number, numbers_of}
 use Rattle.lawful_states.specs.Statuses.{after as status_after}
 use Rattle.lawful_states.specs.declared.changes.StatusChange.{StatusChange}
@@ -49,7 +49,7 @@ use Rattle.library_kept.proofs.DefaultLemmas.{physical-defaults}
 use Rattle.library_kept.proofs.FieldLemmas.{physical-laid}
 use Rattle.library_kept.proofs.ListLemmas.{each-weaker}
 use Rattle.library_kept.proofs.ResultLemmas.{ok-equal, bind-ok}
-use Rattle.logical_laws.proofs.SomeLemmas.{logical-some}
+use Rattle.joint_state.proofs.SomeLemmas.{logical-some}
 use Rattle.library_kept.proofs.ViewLemmas.{mapped-kept, mapped-without, view-stays}
 
 -- a member that a file had before, with records of the same fields

@@ -8,14 +8,14 @@ use Rattle.field_types.specs.declared.values.Value.{Value}
 use Rattle.record_fmt.specs.declared.formats.Field.{Field}
 use Rattle.record_fmt.specs.Records.{record_given, record_held}
 use Rattle.dds_physical.specs.declared.physical_files.PhysicalSpec.{PhysicalSpec}
-use Rattle.dds_logical.specs.declared.views.View.{View}
-use Rattle.dds_logical.specs.declared.views.LogicalSpec.{LogicalSpec}
-use Rattle.dds_logical.specs.declared.views.LogicalSpec.TheVariants.{Simple, Multi, Join}
+use Rattle.logical_model.below.dds_logical.specs.declared.views.View.{View}
+use Rattle.logical_model.below.dds_logical.specs.declared.views.LogicalSpec.{LogicalSpec}
+use Rattle.logical_model.below.dds_logical.specs.declared.views.LogicalSpec.TheVariants.{Simple, Multi, Join}
 use Rattle.logical_model.specs.Bases.{Base, Bases, FileSpec, PhysicalFile, LogicalFile, base_names}
 use Rattle.logical_model.specs.Formats.{format_number, given_by, given_in}
-use Rattle.logical_laws.specs.Mapped.{HoldDefaults}
-use Rattle.logical_laws.specs.Found.{HoldsRecord}
-use Rattle.logical_laws.proofs.GivenLemmas.{given-makes}
+use Rattle.joint_state.specs.Mapped.{HoldDefaults}
+use Rattle.joint_state.specs.Found.{HoldsRecord}
+use Rattle.joint_state.proofs.GivenLemmas.{given-makes}
 use Rattle.library_model.specs.Named.{Named, named}
 use Rattle.library_model.specs.declared.replies.Reply.{Reply}
 use Rattle.library_steps.specs.LogicalFiles.{bases_in, bases_of}

@@ -3,9 +3,9 @@ use Rattle.std.proofs.Common.{◌≡◌, ℕ, zero, suc, ◌-◌, ◌<◌, if◌
 use Rattle.std.proofs.lemmas.List.Elements.{All-contains_itself, recursion_from_All}
 use Rattle.std.specs.List.{AllByRecursion}
 use Rattle.dds_physical.specs.declared.physical_files.PhysicalSpec.{PhysicalSpec}
-use Rattle.dds_logical.specs.declared.views.LogicalSpec.{LogicalSpec}
-use Rattle.dds_logical.specs.declared.views.LogicalSpec.TheVariants.{Simple, Multi, Join}
-use Rattle.dds_logical.specs.declared.join_views.JoinView.{JoinView}
+use Rattle.logical_model.below.dds_logical.specs.declared.views.LogicalSpec.{LogicalSpec}
+use Rattle.logical_model.below.dds_logical.specs.declared.views.LogicalSpec.TheVariants.{Simple, Multi, Join}
+use Rattle.logical_model.below.dds_logical.specs.declared.join_views.JoinView.{JoinView}
 use Rattle.file_model.specs.declared.paths.PathFormat.{PathFormat}
 use Rattle.file_model.specs.FilePaths.{every_record, own_fields, path_format}
 use Rattle.file_model.specs.Joins.{RowPlace}
@@ -14,8 +14,8 @@ use Rattle.file_model.specs.Paths.{PathEntry, compare_entries, entries_of, entry
 use Rattle.file_model.specs.Positions.{Position, Reading, arrival_entry, chain_key, chain_number}
 use Rattle.logical_model.specs.Bases.{FileSpec, PhysicalFile, LogicalFile, base_members}
 use Rattle.logical_model.specs.Readings.{join_in, logical_reading, physical_reading, reading_in, rows_reading}
-use Rattle.logical_laws.proofs.FoundLemmas.{entry-stands, row-stands}
-use Rattle.logical_laws.proofs.ListLemmas.{each-in_order}
+use Rattle.joint_state.proofs.FoundLemmas.{entry-stands, row-stands}
+use Rattle.joint_state.proofs.ListLemmas.{each-in_order}
 use Rattle.member_slots.specs.Member.{records}
 use Rattle.member_slots.specs.Members.{NumberedMembers, member_of}
 use Rattle.library_model.specs.Named.{Named, named, same_name}

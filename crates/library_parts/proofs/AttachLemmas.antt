@@ -7,13 +7,13 @@ use Rattle.dds_physical.specs.declared.physical_files.PhysicalSpec.{PhysicalSpec
 use Rattle.file_model.specs.declared.paths.PathSpec.{PathSpec}
 use Rattle.file_model.specs.FilePaths.{physical_path}
 use Rattle.file_model.specs.Paths.{repeated_in}
-use Rattle.path_entrants.specs.Repeated.{TellsRepeated}
+use Rattle.path_set.specs.Repeated.{TellsRepeated}
 use Rattle.path_set.specs.EqualKeys.{first_repeated, found_or, repeated_of}
 use Rattle.path_set.specs.declared.repeated.Repeated.{Repeated}
 use Rattle.path_set.specs.KeptPaths.{KeptPath, KeptPaths, NumberedPaths, AreOver, entries_of, spare_of}
 use Rattle.path_set.specs.Sharing.{CanBeKept, IsNew, IsShared, IsPut}
 use Rattle.path_set.proofs.AttachLemmas.{judged-put}
-use Rattle.physical_paths.specs.KeyedFiles.{IsKeyed}
+use Rattle.file_catalogue.specs.KeyedFiles.{IsKeyed}
 use Rattle.library_model.specs.declared.replies.Reply.TheVariants.{DuplicateKey}
 use Rattle.library_paths.proofs.NumberLemmas.{each-at}
 use Rattle.library_steps.specs.Refusals.{refuse_with}

@@ -12,7 +12,7 @@ use Rattle.member_slots.specs.declared.slot.Slot.{Slot}
 use Rattle.member_slots.specs.declared.slot.Slot.TheVariants.{Live, Deleted}
 use Rattle.member_slots.specs.Member.{MemberState, FitsSlot, IsMember}
 use Rattle.member_slots.specs.Members.{Numbered, NumberedMembers, AreMembers, member_at, member_of, put_member, with_member}
-use Rattle.physical_paths.specs.KeyedFiles.{IsRecordSlot}
+use Rattle.file_catalogue.specs.KeyedFiles.{IsRecordSlot}
 use Rattle.lawful_states.specs.Lawful.{AreOne, HasRecords, HoldsValues}
 use Rattle.lawful_states.specs.Owners.{Owns}
 use Rattle.lawful_states.specs.Slots.{MayStand, weight}

@@ -2,7 +2,7 @@
 use Rattle.std.proofs.Common.{◌≡◌, ℕ, zero, suc, ◌<◌, ◌≤◌, List, [], ◌∷◌, ◌++◌, drop, length, slice_get, Some, refl, subst, arith}
 use Rattle.std.specs.Prelude.{flat_map}
 use Rattle.std.specs.List.{AllByRecursion}
-use Rattle.logical_laws.proofs.ListLemmas.{each-append}
+use Rattle.library_paths.proofs.LogicalLawsListLemmas.{each-append}
 use Rattle.lawful_states.proofs.NameLemmas.{some-equal}
 
 pub each-flat : {A B : Type 0} (Q : B → Type 0) (f : A → List B) (xs : List A) → AllByRecursion (λ (x : A). AllByRecursion Q (f x)) xs → AllByRecursion Q (flat_map f xs)

@@ -17,16 +17,16 @@ use Rattle.file_model.specs.FilePaths.{key_parts, physical_path}
 use Rattle.file_model.specs.KeyOrder.{either_part, either_parts, merged_parts}
 use Rattle.access_path.specs.PathBytes.{IsInBytes}
 use Rattle.logical_model.specs.Bases.{Bases, LogicalFile, base_names}
-use Rattle.logical_paths.specs.KeyedViews.{HaveRecords, IsKeyedLogical, IsViewOver, IsKeyedJoin}
-use Rattle.logical_paths.specs.Steps.{own_path, shown_in_join}
-use Rattle.logical_paths.proofs.ViewLemmas.{paths-bytes, same-keys, view-allowed, view-few}
-use Rattle.physical_paths.specs.KeyedFiles.{HasRecordsOf, IsKeyed}
-use Rattle.physical_paths.proofs.PositionLemmas.{parts-allowed, parts-few}
+use Rattle.view_records.specs.KeyedViews.{HaveRecords, IsKeyedLogical, IsViewOver, IsKeyedJoin}
+use Rattle.view_records.specs.Steps.{own_path, shown_in_join}
+use Rattle.view_records.proofs.ViewLemmas.{paths-bytes, same-keys, view-allowed, view-few}
+use Rattle.file_catalogue.specs.KeyedFiles.{HasRecordsOf, IsKeyed}
+use Rattle.file_catalogue.proofs.PositionLemmas.{parts-allowed, parts-few}
 use Rattle.open_position.specs.OpenStand.{AreFormatKeys}
 use Rattle.library_parts.specs.Indexed.{IsView}
 use Rattle.library_parts.proofs.OpenLooks.{merged-one}
 use Rattle.dds_logical.specs.declared.join_views.JoinView.{JoinView}
-use Rattle.logical_paths.proofs.KeyLemmas.{parts-length, parts-allowed as joined-allowed}
+use Rattle.view_records.proofs.KeyLemmas.{parts-length, parts-allowed as joined-allowed}
 
 either-few : (n : ℕ) (ps qs : List KeyPart) → length ps ≤ n → length qs ≤ n → length (either_parts ps qs) ≤ n
 either-few n [] qs few also = also

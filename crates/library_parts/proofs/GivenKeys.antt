@@ -21,12 +21,12 @@ use Rattle.member_slots.specs.declared.slot.Slot.TheVariants.{Live, Deleted}
 use Rattle.member_slots.specs.Member.{FitsSlot}
 use Rattle.member_slots.specs.Members.{Numbered, NumberedMembers, AreMembers, member_of}
 use Rattle.access_path.specs.PathBytes.{IsInBytes}
-use Rattle.path_entrants.specs.Repeated.{TellsRepeated}
+use Rattle.path_set.specs.Repeated.{TellsRepeated}
 use Rattle.path_set.specs.declared.moves.PathMove.{PathMove}
 use Rattle.path_set.specs.KeptPaths.{KeptPath, KeptPaths, NumberedPaths, AreShared, entries_of}
 use Rattle.path_set.proofs.ShareLemmas.{judged}
 use Rattle.lawful_states.specs.Owners.{Owns, has_number}
-use Rattle.physical_paths.specs.KeyedFiles.{IsRecordSlot, HasRecordsOf}
+use Rattle.file_catalogue.specs.KeyedFiles.{IsRecordSlot, HasRecordsOf}
 use Rattle.job_table.specs.Opens.{OpenOrder}
 use Rattle.library_model.specs.Named.{Named, named, same_name}
 use Rattle.library_model.specs.declared.replies.Reply.{Reply}

@@ -14,8 +14,8 @@ use Rattle.file_model.specs.declared.paths.PathSpec.{PathSpec}
 use Rattle.file_model.specs.FilePaths.{physical_path}
 use Rattle.logical_model.specs.Bases.{FileSpec, PhysicalFile, LogicalFile, base_members, Bases}
 use Rattle.logical_model.specs.Formats.{has_key}
-use Rattle.logical_laws.proofs.ListLemmas.{each-append, each-contained, each-weaker}
-use Rattle.logical_paths.specs.Steps.{own_path}
+use Rattle.library_paths.proofs.LogicalLawsListLemmas.{each-append, each-contained, each-weaker}
+use Rattle.view_records.specs.Steps.{own_path}
 use Rattle.path_set.specs.declared.moves.PathMove.{PathMove}
 use Rattle.path_set.specs.KeptPaths.{KeptPath, KeptPaths, NumberedPaths, AreShared, spare_of}
 use Rattle.path_set.specs.MemberSteps.{is_over}
@@ -55,8 +55,8 @@ use Rattle.library_parts.proofs.IndexDetached.{first-found, found_over, none-ove
 use Rattle.dds_logical.specs.declared.views.LogicalSpec.TheVariants.{Simple, Multi, Join}
 use Rattle.dds_logical.specs.declared.join_views.JoinView.{JoinView}
 use Rattle.logical_model.specs.FilePaths.{logical_paths}
-use Rattle.logical_laws.specs.Mapped.{AreSameBases}
-use Rattle.logical_laws.proofs.SameLemmas.{same-paths}
+use Rattle.library_paths.specs.Mapped.{AreSameBases}
+use Rattle.library_paths.proofs.SameLemmas.{same-paths}
 use Rattle.library_parts.proofs.ManyAttached.{giving-each, opens-more}
 
 -- ---- what some paths contain

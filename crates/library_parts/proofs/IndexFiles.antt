@@ -1,6 +1,6 @@
 -- The kept paths are those of a library still, with a file more, physical or logical, or a member.
 use Rattle.std.proofs.Common.{ℕ, ◌+◌, ◌-◌, ◌<◌, ◌≤◌, ◌≡◌, ◌≢◌, ◌==◌, ◌||◌, nat_eq, nat_lt, if◌then◌else◌, Bool, true, false, cond, List, [], ◌∷◌, ◌++◌, length, map, length-append, Option, Some, None, is_some, IfSome, Ok, Err, Result, refl, sym, ap, arith, ◌∙◌, subst, slice_get, IsSome}
-use Rattle.logical_laws.proofs.SomeLemmas.{logical-some}
+use Rattle.library_paths.proofs.SomeLemmas.{logical-some}
 use Rattle.dds_logical.specs.declared.views.View.{View}
 use Rattle.std.specs.Prelude.{All, replicate}
 use Rattle.std.specs.List.{AllByRecursion, IsDistinct, list_any}
@@ -31,19 +31,19 @@ use Rattle.dds_logical.specs.declared.views.LogicalSpec.{LogicalSpec}
 use Rattle.dds_logical.specs.declared.views.LogicalSpec.TheVariants.{Simple, Multi, Join}
 use Rattle.logical_model.specs.Bases.{Base, Bases, FileSpec, PhysicalFile, LogicalFile, base_members, base_names}
 use Rattle.logical_model.specs.FilePaths.{logical_paths, view_format, secondary_of}
-use Rattle.logical_laws.proofs.ListLemmas.{each-append, each-weaker}
-use Rattle.logical_laws.proofs.MappedLemmas.{described-mapped, described-there}
-use Rattle.logical_paths.specs.KeyedViews.{HaveFewPairs, HaveRecords}
-use Rattle.logical_paths.specs.Steps.{own_path}
-use Rattle.logical_paths.proofs.DescribedLemmas.{described-keyed, found-right}
+use Rattle.library_paths.proofs.LogicalLawsListLemmas.{each-append, each-weaker}
+use Rattle.library_paths.proofs.MappedLemmas.{described-mapped, described-there}
+use Rattle.view_records.specs.KeyedViews.{HaveFewPairs, HaveRecords}
+use Rattle.view_records.specs.Steps.{own_path}
+use Rattle.view_records.proofs.DescribedLemmas.{described-keyed, found-right}
 use Rattle.view_records.proofs.FormatLemmas.{described-bytes, described-formatted}
-use Rattle.logical_paths.proofs.ViewLemmas.{paths-bytes, paths-kept}
+use Rattle.view_records.proofs.ViewLemmas.{paths-bytes, paths-kept}
 use Rattle.journal_model.specs.Rollback.{MemberChange}
 use Rattle.file_model.specs.declared.paths.PathFormat.{PathFormat}
 use Rattle.file_model.specs.declared.paths.PathSpec.{PathSpec}
 use Rattle.file_model.specs.FilePaths.{physical_path}
 use Rattle.file_model.specs.Paths.{repeated_in}
-use Rattle.path_entrants.specs.Repeated.{TellsRepeated}
+use Rattle.path_set.specs.Repeated.{TellsRepeated}
 use Rattle.path_set.specs.declared.moves.PathMove.{PathMove}
 use Rattle.path_set.specs.KeptPaths.{KeptPaths, AreShared}
 use Rattle.path_set.specs.MemberSteps.{is_over}
@@ -54,7 +54,7 @@ use Rattle.lawful_states.specs.Owners.{Owns, has_number}
 use Rattle.lawful_states.specs.Physical.{IsPhysical}
 use Rattle.lawful_states.proofs.NameLemmas.{some-equal}
 use Rattle.lawful_states.proofs.StatusLemmas.{has_number-cons}
-use Rattle.physical_paths.specs.KeyedFiles.{HasRecordsOf}
+use Rattle.file_catalogue.specs.KeyedFiles.{HasRecordsOf}
 use Rattle.job_table.specs.Opens.{OpenOrder}
 use Rattle.library_model.specs.Named.{Named, named, same_name}
 use Rattle.library_paths.specs.AllPaths.{AllStand, StandsBy, all_paths, count_in, paths_by}

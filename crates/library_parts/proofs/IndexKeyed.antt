@@ -4,7 +4,7 @@ use Rattle.std.specs.List.{AllByRecursion}
 use Rattle.std.specs.Option.{option_map}
 use Rattle.dds_physical.specs.declared.physical_files.PhysicalSpec.{PhysicalSpec}
 use Rattle.logical_model.specs.Bases.{FileSpec, PhysicalFile}
-use Rattle.physical_paths.specs.KeyedFiles.{IsKeyed}
+use Rattle.file_catalogue.specs.KeyedFiles.{IsKeyed}
 use Rattle.lawful_states.specs.Statuses.{after}
 use Rattle.lawful_states.specs.declared.changes.StatusChange.{StatusChange}
 use Rattle.lawful_states.proofs.ChangeLemmas.{changed-from, named-each_changed, named-file_changed}

@@ -1,6 +1,6 @@
 -- The laws of the paths of files, as lemmas on looks take them.
-use Rattle.physical_paths.proofs.RecordLemmas.{image-taken, keys-within, path-bytes, path-kept}
-use Rattle.logical_paths.proofs.ViewLemmas.{images-taken, keys-short, paths-bytes, paths-kept}
+use Rattle.file_catalogue.proofs.RecordLemmas.{image-taken, keys-within, path-bytes, path-kept}
+use Rattle.view_records.proofs.ViewLemmas.{images-taken, keys-short, paths-bytes, paths-kept}
 use Rattle.library_parts.proofs.IndexLooks.{AreLaws}
 
 pub laws : AreLaws

@@ -23,15 +23,15 @@ use Rattle.access_path.specs.PathBytes.{IsInBytes}
 use Rattle.file_cursor.specs.PositionBytes.{HasKeysWithin}
 use Rattle.logical_model.specs.Bases.{Base, Bases, FileSpec, PhysicalFile, LogicalFile, base_names}
 use Rattle.logical_model.specs.FilePaths.{logical_paths}
-use Rattle.logical_laws.proofs.ListLemmas.{each-contained}
-use Rattle.logical_paths.specs.KeyedViews.{HaveRecords, IsKeyedLogical, IsRecordOfBases}
-use Rattle.path_entrants.specs.Formats.{IsAskable}
+use Rattle.library_paths.proofs.LogicalLawsListLemmas.{each-contained}
+use Rattle.view_records.specs.KeyedViews.{HaveRecords, IsKeyedLogical, IsRecordOfBases}
+use Rattle.path_set.specs.Formats.{IsAskable}
 use Rattle.path_set.specs.declared.moves.PathMove.{PathMove}
 use Rattle.path_set.specs.KeptPaths.{KeptPaths, NumberedPaths, AreShared}
 use Rattle.path_set.specs.MemberSteps.{image_in}
 use Rattle.path_set.specs.RecordChanges.{TakeImage, TakesImage}
 use Rattle.path_set.specs.Sharing.{CanBeKept}
-use Rattle.physical_paths.specs.KeyedFiles.{IsKeyed, IsRecord, IsRecordSlot, HasRecordsOf}
+use Rattle.file_catalogue.specs.KeyedFiles.{IsKeyed, IsRecord, IsRecordSlot, HasRecordsOf}
 use Rattle.lawful_states.specs.Owners.{Owns, has_number}
 use Rattle.lawful_states.specs.Physical.{IsPhysical}
 use Rattle.lawful_states.proofs.StatusLemmas.{has_number-cons}

@@ -9,10 +9,10 @@ use Rattle.member_slots.specs.Members.{NumberedMembers, member_at, member_of}
 use Rattle.dds_physical.specs.declared.physical_files.PhysicalSpec.{PhysicalSpec}
 use Rattle.file_model.specs.FilePaths.{every_record, own_fields, path_format, physical_path}
 use Rattle.file_model.specs.Paths.{entries_in, first_repeated, repeated_in}
-use Rattle.path_entrants.specs.Repeated.{TellsRepeated}
+use Rattle.path_set.specs.Repeated.{TellsRepeated}
 use Rattle.path_set.specs.Sharing.{CanBeKept}
-use Rattle.physical_paths.specs.KeyedFiles.{IsKeyed, IsRecordSlot, HasRecordsOf}
-use Rattle.physical_paths.proofs.RecordLemmas.{path-bytes, path-kept}
+use Rattle.file_catalogue.specs.KeyedFiles.{IsKeyed, IsRecordSlot, HasRecordsOf}
+use Rattle.file_catalogue.proofs.RecordLemmas.{path-bytes, path-kept}
 use Rattle.library_parts.specs.PathChanges.{member_path}
 
 -- ---- whether there is one

@@ -17,10 +17,10 @@ use Rattle.dds_logical.specs.declared.views.LogicalSpec.TheVariants.{Simple, Mul
 use Rattle.logical_model.specs.Bases.{Bases, FileSpec, PhysicalFile, LogicalFile}
 use Rattle.logical_model.specs.FilePaths.{view_format, secondary_of}
 use Rattle.logical_model.specs.Formats.{has_key}
-use Rattle.logical_laws.specs.Mapped.{AreSameBases}
-use Rattle.logical_laws.proofs.ListLemmas.{each-append, each-contained}
-use Rattle.logical_laws.proofs.SameLemmas.{same-paths}
-use Rattle.logical_paths.specs.Steps.{own_path, shown_in_join}
+use Rattle.library_paths.specs.Mapped.{AreSameBases}
+use Rattle.library_paths.proofs.LogicalLawsListLemmas.{each-append, each-contained}
+use Rattle.library_paths.proofs.SameLemmas.{same-paths}
+use Rattle.view_records.specs.Steps.{own_path, shown_in_join}
 use Rattle.library_paths.specs.AllPaths.{AreKeptFor, all_paths, paths_among, paths_by}
 use Rattle.library_paths.specs.KeptOnce.{with_entries}
 use Rattle.library_paths.proofs.KeptLemmas.{kept-contained}

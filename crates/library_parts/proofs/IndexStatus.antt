@@ -6,9 +6,9 @@ use Rattle.member_slots.specs.Members.{NumberedMembers}
 use Rattle.dds_logical.specs.declared.views.LogicalSpec.{LogicalSpec}
 use Rattle.dds_logical.specs.declared.views.LogicalSpec.TheVariants.{Simple, Multi, Join}
 use Rattle.logical_model.specs.Bases.{Base, Bases, FileSpec, PhysicalFile, LogicalFile, base_names}
-use Rattle.logical_laws.specs.Mapped.{AreSameBases}
-use Rattle.logical_laws.proofs.SameLemmas.{same-mapped}
-use Rattle.logical_paths.specs.KeyedViews.{IsKeyedView, IsViewOver, IsFileOver, IsKeyedFile, IsKeyedJoin, IsPartOver}
+use Rattle.library_paths.specs.Mapped.{AreSameBases}
+use Rattle.library_paths.proofs.SameLemmas.{same-mapped}
+use Rattle.view_records.specs.KeyedViews.{IsKeyedView, IsViewOver, IsFileOver, IsKeyedFile, IsKeyedJoin, IsPartOver}
 use Rattle.library_paths.specs.AllPaths.{all_paths, count_in}
 use Rattle.library_paths.proofs.BaseLemmas.{AllAlike, AreAlike, all-alike-status}
 use Rattle.library_paths.proofs.NameLemmas.{each-named}
@@ -29,7 +29,7 @@ use Rattle.library_parts.proofs.IndexShared.{IsIndexed-files, opens-stay}
 use Rattle.dds_logical.specs.declared.join_views.JoinView.{JoinView}
 use Rattle.dds_logical.specs.declared.join_views.JoinedFile.{JoinedFile}
 use Rattle.record_fmt.specs.Layout.{IsLaidOut}
-use Rattle.logical_paths.specs.Steps.{shown_in_join}
+use Rattle.view_records.specs.Steps.{shown_in_join}
 use Rattle.join_records.proofs.SameLemmas.{same-linked}
 
 -- ---- files whose bases are what they were

@@ -9,16 +9,16 @@ use Rattle.file_model.specs.declared.joins.Secondary.{Secondary}
 use Rattle.file_model.specs.FilePaths.{key_parts}
 use Rattle.file_model.specs.Joins.{JoinRow, RowPlace, compare_places, row_with, rows_of}
 use Rattle.file_model.specs.Positions.{Position}
-use Rattle.join_position.specs.RowReads.{CanBeKept, asked_row, place_of}
-use Rattle.join_position.proofs.FindLemmas.{Finds, asked-place}
+use Rattle.job_table.specs.RowReads.{CanBeKept, asked_row, place_of}
+use Rattle.job_table.proofs.FindLemmas.{Finds, asked-place}
 use Rattle.join_records.proofs.EntryLemmas.{entry-image}
 use Rattle.join_records.specs.Linked.{fields_under}
 use Rattle.join_records.specs.ReadOver.{IsReadOver}
 use Rattle.join_records.specs.Shown.{AreRecordsOf}
-use Rattle.join_rows.specs.declared.rows.Row.{Row}
-use Rattle.join_rows.specs.NextRow.{row_of_entry}
-use Rattle.join_rows.specs.Numbers.{image_at, matched_number, row_by}
-use Rattle.join_rows.specs.Rows.{IsFound, IsRow}
+use Rattle.join_records.below.join_rows.specs.declared.rows.Row.{Row}
+use Rattle.join_records.specs.NextRow.{row_of_entry}
+use Rattle.join_records.specs.Numbers.{image_at, matched_number, row_by}
+use Rattle.join_records.specs.Rows.{IsFound, IsRow}
 use Rattle.key_pages.specs.declared.entries.Entry.{Entry}
 use Rattle.key_pages.specs.EntryList.{EntryList}
 use Rattle.key_spec.specs.declared.KeyPart.{KeyPart}

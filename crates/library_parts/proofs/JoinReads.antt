@@ -11,16 +11,16 @@ use Rattle.file_model.specs.declared.joins.Secondary.{Secondary}
 use Rattle.file_model.specs.declared.paths.PathSpec.{PathSpec}
 use Rattle.file_model.specs.Joins.{secondary_path}
 use Rattle.join_records.specs.ReadOver.{ArePathsOf, HasDefaults, IsReadOver}
-use Rattle.join_rows.specs.Places.{IsPathOf}
+use Rattle.join_records.specs.Places.{IsPathOf}
 use Rattle.key_order.specs.KeyFields.{AreBytes}
 use Rattle.key_pages.specs.EntryList.{EntryList}
 use Rattle.library_paths.specs.AllPaths.{AreKeptFor}
-use Rattle.logical_laws.specs.Mapped.{HoldDefaults}
+use Rattle.library_paths.specs.Mapped.{HoldDefaults}
 use Rattle.logical_model.specs.Bases.{Bases, LogicalFile}
 use Rattle.logical_model.specs.FilePaths.{primary_path, secondary_of}
-use Rattle.logical_paths.specs.KeyedViews.{HaveRecords}
-use Rattle.logical_paths.specs.Steps.{own_path}
-use Rattle.logical_paths.proofs.ViewLemmas.{paths-bytes}
+use Rattle.view_records.specs.KeyedViews.{HaveRecords}
+use Rattle.view_records.specs.Steps.{own_path}
+use Rattle.view_records.proofs.ViewLemmas.{paths-bytes}
 use Rattle.member_slots.specs.Members.{Numbered, NumberedMembers, item_at}
 use Rattle.path_set.specs.KeptPaths.{AreShared, KeptPath, KeptPaths, entries_of, pages_at, pages_of, pages_with}
 use Rattle.path_set.specs.RebuiltPaths.{HaveRooms}

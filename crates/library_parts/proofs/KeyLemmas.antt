@@ -20,7 +20,7 @@ use Rattle.key_order.proofs.ViewLemmas.{view-bytes}
 use Rattle.member_slots.specs.Members.{Numbered, NumberedMembers, item_at}
 use Rattle.member_slots.specs.declared.slot.Slot.{Slot}
 use Rattle.member_slots.specs.declared.slot.Slot.TheVariants.{Live, Deleted}
-use Rattle.path_entrants.specs.Formats.{CanBeAsked, IsAskable, keys_of}
+use Rattle.path_set.specs.Formats.{CanBeAsked, IsAskable, keys_of}
 use Rattle.path_set.specs.EqualKeys.{clash_in}
 use Rattle.path_set.specs.KeptPaths.{KeptPath, NumberedPaths}
 use Rattle.path_set.specs.MemberSteps.{image_in}

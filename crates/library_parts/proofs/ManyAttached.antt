@@ -11,7 +11,7 @@ use Rattle.library_paths.specs.AllPaths.{AreKeptFor}
 use Rattle.library_paths.proofs.CountLemmas.{contained-count, count-append, count-contained, count-own}
 use Rattle.library_paths.proofs.KeptLemmas.{attached, attached-shared, detached-kept, detached-shared}
 use Rattle.library_paths.proofs.ListLemmas.{two-from}
-use Rattle.logical_laws.proofs.ListLemmas.{each-weaker}
+use Rattle.library_paths.proofs.LogicalLawsListLemmas.{each-weaker}
 use Rattle.library_paths.proofs.NumberLemmas.{IsBelow, any-at, any-new, any-with, at-any}
 use Rattle.job_table.specs.Opens.{OpenOrder}
 use Rattle.library_model.specs.Named.{Named, named}

@@ -9,7 +9,7 @@ use Rattle.member_slots.specs.Members.{Numbered, item_at}
 use Rattle.file_model.specs.declared.paths.PathSpec.{PathSpec}
 use Rattle.logical_model.specs.FilePaths.{is_over}
 use Rattle.logical_model.specs.SamePaths.{count_paths, same_path}
-use Rattle.path_laws.proofs.PathLemmas.{path-own, path-told}
+use Rattle.library_paths.proofs.PathLemmas.{path-own, path-told}
 use Rattle.path_set.specs.KeptPaths.{AreShared, KeptPath, NumberedPaths}
 use Rattle.path_set.specs.MemberSteps.{paths_over as kept_over}
 use Rattle.path_set.specs.Sharing.{IsNew}

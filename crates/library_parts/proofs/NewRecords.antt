@@ -30,7 +30,7 @@ use Rattle.path_set.specs.declared.moves.PathMove.{PathMove}
 use Rattle.path_set.specs.EqualKeys.{clash_in}
 use Rattle.path_set.specs.KeptPaths.{KeptPath, NumberedPaths, AreShared, entries_of}
 use Rattle.path_set.proofs.ClashLemmas.{clash-told}
-use Rattle.physical_paths.specs.KeyedFiles.{HasRecordsOf}
+use Rattle.file_catalogue.specs.KeyedFiles.{HasRecordsOf}
 use Rattle.lawful_states.specs.Owners.{Owns}
 use Rattle.job_table.specs.Opens.{OpenOrder}
 use Rattle.library_model.specs.Named.{Named, named, same_name}
@@ -53,7 +53,7 @@ use Rattle.library_parts.proofs.IndexLaws.{laws}
 use Rattle.library_parts.proofs.IndexLooks.{bases-have, each-kept, fields-are, records-of, takes-slot, takes-stood, view-of}
 use Rattle.library_parts.proofs.IndexPaths.{IsOfMember, IsOfOwner, changes-all, kept-of}
 use Rattle.library_parts.proofs.KeyLemmas.{asked-there}
-use Rattle.logical_paths.specs.Steps.{shown_in_join}
+use Rattle.view_records.specs.Steps.{shown_in_join}
 use Rattle.library_parts.proofs.JoinedUnique.{join-unique}
 
 or-none : (b : Bool) → (b || false) ≡ true → b ≡ true

@@ -11,8 +11,8 @@ use Rattle.file_model.specs.Joins.{RowPlace}
 use Rattle.job_table.specs.declared.opens.RowRead.{RowRead}
 use Rattle.job_table.specs.OpenChanges.{IsRowRead, place_by}
 use Rattle.job_table.specs.Opens.{AllOfNumber, JoinOrder, KeptOpen, OpenOrder}
-use Rattle.join_position.specs.Kept.{IsKeyOf}
-use Rattle.join_position.specs.RowReads.{AreNumbers, CanBeKept, matches_by}
+use Rattle.job_table.specs.Kept.{IsKeyOf}
+use Rattle.job_table.specs.RowReads.{AreNumbers, CanBeKept, matches_by}
 use Rattle.key_order.specs.KeyFields.{key_width}
 use Rattle.key_pages.specs.declared.entries.Entry.{Entry}
 use Rattle.key_spec.specs.declared.KeyPart.{KeyPart}

@@ -26,13 +26,13 @@ use Rattle.access_path.specs.PathBytes.{IsInBytes, is_falling}
 use Rattle.file_cursor.specs.PositionBytes.{HasKeysWithin}
 use Rattle.logical_model.specs.Bases.{Bases, FileSpec, PhysicalFile, LogicalFile}
 use Rattle.logical_model.specs.Formats.{has_key, parts_in}
-use Rattle.logical_paths.proofs.KeyLemmas.{parts-length}
+use Rattle.view_records.proofs.KeyLemmas.{parts-length}
 use Rattle.open_position.specs.Reads.{IsPathOver}
 use Rattle.path_set.specs.declared.moves.PathMove.{PathMove}
 use Rattle.path_set.specs.KeptPaths.{KeptPath, KeptPaths, NumberedPaths, PathRoom, AreShared, entries_of, pages_at, pages_of, pages_with}
 use Rattle.path_set.specs.RebuiltPaths.{HaveRooms}
 use Rattle.path_set.proofs.ShareLemmas.{entries-path}
-use Rattle.physical_paths.specs.KeyedFiles.{IsRecordSlot, HasRecordsOf}
+use Rattle.file_catalogue.specs.KeyedFiles.{IsRecordSlot, HasRecordsOf}
 use Rattle.library_paths.specs.AllPaths.{AreKeptFor}
 use Rattle.lawful_states.proofs.NameLemmas.{some-equal}
 use Rattle.job_table.specs.Opens.{OpenOrder, SameOpen}

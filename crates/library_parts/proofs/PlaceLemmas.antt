@@ -25,7 +25,7 @@ use Rattle.library_model.specs.declared.requests.Limit.{Limit}
 use Rattle.library_model.specs.declared.requests.Limit.TheVariants as limits
 use Rattle.open_position.specs.Reads.{side_of, IsStandAt, stood}
 use Rattle.open_position.specs.declared.position.Side.{Side}
-use Rattle.physical_paths.proofs.PositionLemmas.{same-given_key, same-key_fault}
+use Rattle.file_catalogue.proofs.PositionLemmas.{same-given_key, same-key_fault}
 use Rattle.job_table.specs.Opens.{OpenOrder, AllOfNumber, JoinOrder}
 use Rattle.library_model.specs.Named.{Named}
 use Rattle.library_steps.specs.Reads.{bound_asked}
@@ -40,7 +40,7 @@ use Rattle.library_parts.specs.Reads.{CanStandIn, GivesKey, HasKeyOf, MayHaveKey
 use Rattle.library_parts.proofs.OpenLooks.{formats-are, merged-one, own_parts, HasOneFormat, formats-of-views}
 use Rattle.dds_logical.specs.declared.join_views.JoinView.{JoinView}
 use Rattle.open_position.specs.declared.position.StandAt.{StandAt}
-use Rattle.join_position.specs.RowStand as rows
+use Rattle.job_table.specs.RowStand as rows
 use Rattle.path_set.specs.KeptPaths.{NumberedPaths}
 use Rattle.job_table.specs.OpenChanges.{CanStand, IsStood}
 use Rattle.library_steps.specs.Opens.{first_of}

@@ -40,10 +40,10 @@ use Rattle.key_pages.specs.EntryList.{EntryList}
 use Rattle.file_cursor.specs.PositionBytes.{HasKeysWithin}
 use Rattle.file_cursor.specs.Reading.{AreNumbered}
 use Rattle.file_cursor.proofs.KeylessLemmas.{keyless}
-use Rattle.logical_paths.specs.KeyedViews.{HaveRecords}
-use Rattle.logical_paths.proofs.ViewLemmas.{keys-short, paths-bytes}
-use Rattle.physical_paths.specs.KeyedFiles.{IsKeyed, HasRecordsOf}
-use Rattle.physical_paths.proofs.RecordLemmas.{keys-within, path-bytes}
+use Rattle.view_records.specs.KeyedViews.{HaveRecords}
+use Rattle.view_records.proofs.ViewLemmas.{keys-short, paths-bytes}
+use Rattle.file_catalogue.specs.KeyedFiles.{IsKeyed, HasRecordsOf}
+use Rattle.file_catalogue.proofs.RecordLemmas.{keys-within, path-bytes}
 use Rattle.lawful_states.specs.Physical.{IsPhysical}
 use Rattle.lawful_states.proofs.NameLemmas.{some-equal}
 use Rattle.file_cursor.specs.declared.places.Hit.{Hit}

@@ -21,7 +21,7 @@ use Rattle.path_set.specs.KeptPaths.{KeptPaths, AreShared}
 use Rattle.path_set.specs.RebuiltPaths.{CanBeRebuilt}
 use Rattle.path_set.specs.Sharing.{CanBeKept}
 use Rattle.path_set.proofs.MemberStepLemmas.{same-with}
-use Rattle.physical_paths.specs.KeyedFiles.{IsRecordSlot, HasRecordsOf}
+use Rattle.file_catalogue.specs.KeyedFiles.{IsRecordSlot, HasRecordsOf}
 use Rattle.lawful_states.specs.Owners.{Owns}
 use Rattle.job_table.specs.Opens.{OpenOrder}
 use Rattle.library_model.specs.Named.{Named, named, same_name}

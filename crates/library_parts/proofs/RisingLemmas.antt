@@ -16,7 +16,7 @@ use Rattle.dds_logical.specs.declared.views.LogicalSpec.{LogicalSpec}
 use Rattle.dds_logical.specs.FormatLines.{FormatLines, formats_in, is_join_file, is_multi_format}
 use Rattle.dds_logical.specs.Keys.{padded}
 use Rattle.dds_logical.specs.Logical.{format_parts, most_parts, view_described, one_or_several, join_described_by, described_by, faults_over, logical_specification, logical_faults, logical_of, ties_with}
-use Rattle.logical_paths.proofs.DescribedLemmas.{found-right}
+use Rattle.view_records.proofs.DescribedLemmas.{found-right}
 use Rattle.library_parts.specs.Indexed.{RisesIfKeyless}
 
 none-padded : (count : ℕ) (ps : List KeyPart) → padded count ps ≡ [] → count ≡ 0

@@ -12,8 +12,8 @@ use Rattle.file_model.specs.declared.joins.Secondary.{Secondary}
 use Rattle.file_model.specs.declared.paths.PathSpec.{PathSpec}
 use Rattle.job_table.specs.declared.reads.OpenRows.{OpenRows}
 use Rattle.job_table.specs.Opens.{JoinOrder, KeptOpen, OpenOrder, join_by}
-use Rattle.join_position.specs.RowReads.{IsJoinOf}
-use Rattle.join_position.specs.RowStand.{JoinStand}
+use Rattle.job_table.specs.RowReads.{IsJoinOf}
+use Rattle.job_table.specs.RowStand.{JoinStand}
 use Rattle.join_records.specs.ReadOver.{IsReadOver}
 use Rattle.key_order.specs.KeyFields.{AreBytes}
 use Rattle.key_pages.specs.EntryList.{EntryList}
@@ -29,12 +29,12 @@ use Rattle.library_steps.specs.Records.{is_keyed}
 use Rattle.library_steps.specs.State.{State, physical_among}
 use Rattle.logical_model.specs.Bases.{Bases, FileSpec, LogicalFile, base_names}
 use Rattle.logical_model.specs.FilePaths.{join_of, primary_path, secondary_of}
-use Rattle.logical_paths.specs.KeyedViews.{HaveRecords}
+use Rattle.view_records.specs.KeyedViews.{HaveRecords}
 use Rattle.member_slots.specs.Members.{AreMembers, Numbered, NumberedMembers, item_at, member_at}
 use Rattle.path_set.specs.declared.moves.PathMove.{PathMove}
 use Rattle.path_set.specs.KeptPaths.{AreShared, KeptPath, KeptPaths, NumberedPaths, pages_at, pages_of, pages_with}
 use Rattle.path_set.specs.RebuiltPaths.{HaveRooms}
-use Rattle.physical_paths.specs.KeyedFiles.{HasRecordsOf}
+use Rattle.file_catalogue.specs.KeyedFiles.{HasRecordsOf}
 use Rattle.record_fmt.specs.declared.formats.Field.{Field}
 use Rattle.library_parts.specs.Indexed.{IsByPath, IsByRows, IsIndexed, IsView, IsViewBeside, ReadsBy, ReadsRowsBy, path_by, path_read}
 use Rattle.library_parts.specs.Rows.{HoldDefaultsOf, ReadsRows}

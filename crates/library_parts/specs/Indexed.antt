@@ -17,9 +17,9 @@ use Rattle.dds_logical.specs.declared.views.LogicalSpec.{LogicalSpec}
 use Rattle.dds_logical.specs.declared.views.LogicalSpec.TheVariants.{Simple, Multi, Join}
 use Rattle.logical_model.specs.Bases.{Bases, FileSpec, PhysicalFile, LogicalFile, base_names}
 use Rattle.logical_model.specs.FilePaths.{secondary_of}
-use Rattle.logical_laws.specs.Mapped.{AreSameBases, IsSpecMapped}
-use Rattle.logical_paths.specs.KeyedViews.{IsKeyedLogical}
-use Rattle.logical_paths.specs.Steps.{own_path}
+use Rattle.library_paths.specs.Mapped.{AreSameBases, IsSpecMapped}
+use Rattle.view_records.specs.KeyedViews.{IsKeyedLogical}
+use Rattle.view_records.specs.Steps.{own_path}
 use Rattle.view_records.specs.Through.{HasFormats, HasBytesIn}
 use Rattle.join_records.specs.Linked.{IsLinkedLogical}
 use Rattle.library_paths.specs.AllPaths.{AreKeptFor, all_paths}

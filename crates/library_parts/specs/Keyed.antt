@@ -2,7 +2,7 @@
 use Rattle.std.specs.Prelude.{◌≡◌, ℕ, Some, List}
 use Rattle.dds_physical.specs.declared.physical_files.PhysicalSpec.{PhysicalSpec}
 use Rattle.logical_model.specs.Bases.{FileSpec, PhysicalFile}
-use Rattle.physical_paths.specs.KeyedFiles.{IsKeyed}
+use Rattle.file_catalogue.specs.KeyedFiles.{IsKeyed}
 use Rattle.library_model.specs.Named.{Named, named}
 use Rattle.library_steps.specs.State.{FileState}
 

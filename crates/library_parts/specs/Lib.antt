@@ -19,3 +19,6 @@ pub mod Filled
 pub mod Rows
 pub mod Deposits
 pub mod Sizes
+pub use Rattle.file_catalogue.specs.Bodies
+pub use Rattle.job_table.specs.Changes
+pub use Rattle.job_table.specs.Table

@@ -15,7 +15,7 @@ use Rattle.member_slots.specs.declared.slot.Slot.TheVariants.{Live, Deleted}
 use Rattle.journal_model.specs.Rollback.{MemberChange}
 use Rattle.library_model.specs.declared.replies.Reply.{Reply}
 use Rattle.library_model.specs.declared.replies.Reply.TheVariants.{HeldByGroup, RecordInUse}
-use Rattle.path_entrants.specs.Formats.{IsAskable}
+use Rattle.path_set.specs.Formats.{IsAskable}
 use Rattle.path_set.specs.EqualKeys.{clash_in}
 use Rattle.path_set.specs.KeptPaths.{AreShared, KeptPath, NumberedPaths}
 use Rattle.path_set.specs.MemberSteps.{image_in, is_over}

@@ -9,10 +9,10 @@ use Rattle.file_model.specs.declared.joins.JoinSpec.{JoinSpec}
 use Rattle.file_model.specs.declared.joins.Secondary.{Secondary}
 use Rattle.file_model.specs.FilePaths.{key_parts}
 use Rattle.file_model.specs.Joins.{JoinRow, RowPlace, compare_places, rows_of}
-use Rattle.join_position.specs.Kept.{IsKeyOf}
-use Rattle.join_position.specs.RowReads.{AreNumbers, asked_of, matches_by}
+use Rattle.job_table.specs.Kept.{IsKeyOf}
+use Rattle.job_table.specs.RowReads.{AreNumbers, asked_of, matches_by}
 use Rattle.join_records.specs.Shown.{IsShownBy}
-use Rattle.join_rows.specs.Numbers.{image_at, matched_number}
+use Rattle.join_records.specs.Numbers.{image_at, matched_number}
 use Rattle.key_order.specs.KeyFields.{key_width}
 use Rattle.job_table.specs.Opens.{KeptOpen}
 use Rattle.key_spec.specs.declared.KeyPart.{KeyPart}
@@ -20,7 +20,7 @@ use Rattle.library_model.specs.Named.{Named, named}
 use Rattle.library_steps.specs.LogicalFiles.{bases_in, bases_of}
 use Rattle.library_steps.specs.Refusals.{OpenedFile, opened_file}
 use Rattle.library_steps.specs.State.{FileState, Memory, OpenState, memory_of}
-use Rattle.logical_laws.specs.Mapped.{HoldDefaults}
+use Rattle.library_paths.specs.Mapped.{HoldDefaults}
 use Rattle.logical_model.specs.Bases.{Bases, LogicalFile}
 use Rattle.logical_model.specs.FilePaths.{join_of}
 use Rattle.logical_model.specs.Readings.{rows_reading}

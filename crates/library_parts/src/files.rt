@@ -2,7 +2,7 @@
 ghost use Rattle.std.specs.Prelude.{◌≡◌, ℕ, ◌+◌, ◌<◌, ◌≤◌, ◌⊎◌, [], ◌∷◌, ◌++◌, Some, None, All, IsSome, IsTrue, IfOk, OnOk, OnErr, MatchOption, length};
 ghost use Rattle.std.specs.List.{AllByRecursion};
 ghost use Rattle.key_order.specs.declared.widths.TheConstants.{MOST_POSITIONS};
-ghost use Rattle.logical_paths.specs.KeyedViews.{HaveFewPairs};
+ghost use Rattle.view_records.specs.KeyedViews.{HaveFewPairs};
 ghost use Rattle.library_steps.specs.CreatePhysicalFile.{formats_of, with_file};
 ghost use Rattle.library_steps.specs.CreateLogicalFile.{first_repeated, with_logical};
 ghost use Rattle.library_steps.specs.LogicalFiles.{bases_of};
@@ -20,7 +20,7 @@ ghost use Rattle.library_steps.specs.Ranges.{library_bytes};
 ghost use Rattle.file_catalogue.specs.Described.{Describes};
 ghost use Rattle.lawful_states.specs.Owners.{AreApart};
 ghost use Rattle.file_catalogue.specs.Views.{DescribesView};
-ghost use Rattle.path_entrants.specs.Repeated.{TellsRepeated};
+ghost use Rattle.path_set.specs.Repeated.{TellsRepeated};
 ghost use Rattle.path_set.specs.KeptPaths.{AreOver, spare_of};
 ghost use Rattle.path_set.specs.Sharing.{CanBeKept, IsNew, IsPut, IsShared};
 ghost use Rattle.library_parts.specs.Answers.{MayAllow, MayAllowAny};

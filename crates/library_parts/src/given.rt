@@ -26,7 +26,6 @@ use file_catalogue::{Catalogue, Described, File, FileBody};
 use file_model::paths::PathSpec;
 use given_changes::image_changes;
 use library_model::replies::Reply;
-use logical_paths::paths::own_path;
 use member_paths::member_path;
 use member_slots::members::Members;
 use member_slots::slot::Slot;
@@ -34,6 +33,7 @@ use path_set::moves::Moves;
 use path_set::set::PathSet;
 use range_images::SlotGiven;
 use std::alloc::{AllocError, Global};
+use view_records::logical_paths::paths::own_path;
 
 impl Contents {
     /// The moves that giving these slots to the member makes in all paths, with memory for them and for taking them back. Nothing is

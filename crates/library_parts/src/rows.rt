@@ -4,8 +4,8 @@ ghost use Rattle.std.specs.List.{AllByRecursion};
 ghost use Rattle.dds_logical.specs.declared.views.LogicalSpec.TheVariants.{Join};
 ghost use Rattle.file_model.specs.FilePaths.{key_parts};
 ghost use Rattle.file_model.specs.Joins.{RowPlace};
-ghost use Rattle.join_position.specs.RowReads.{IsAskedOf};
-ghost use Rattle.join_rows.specs.Numbers.{matched_number};
+ghost use Rattle.job_table.specs.RowReads.{IsAskedOf};
+ghost use Rattle.join_records.specs.Numbers.{matched_number};
 ghost use Rattle.key_order.specs.KeyFields.{AreBytes};
 ghost use Rattle.library_model.specs.Named.{named};
 ghost use Rattle.library_steps.specs.History.{is_running};
@@ -29,19 +29,19 @@ use field_types::names::Name;
 use field_types::values::Value;
 use file_catalogue::File;
 use file_model::joins::{JoinSpec, Secondary};
+use job_table::join_position::laws::found_rows_are_at_their_places;
 use job_table::{Open, RowRead};
-use join_position::laws::found_rows_are_at_their_places;
+use join_records::join_rows::rows::{JoinFile, Row};
+use join_records::join_rows::trials::image_at;
 use join_records::laws::{joins_can_be_read, rows_are_made_of_records};
 use join_records::shown::values_shown;
-use join_rows::rows::{JoinFile, Row};
-use join_rows::trials::image_at;
 use key_pages::Entry;
 use lock_table::Call;
-use logical_paths::readings::join_of;
 use member_slots::members::Members;
 use open_position::reads::ReadBy;
 use path_set::set::PathSet;
 use std::alloc::{AllocError, Global};
+use view_records::logical_paths::readings::join_of;
 
 /// A row that a read found: of this join that of this entry of the primary file's path, with the secondary files' records of these numbers.
 #[derive(Drop)]

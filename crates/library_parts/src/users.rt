@@ -29,7 +29,7 @@ use file_model::paths::PathSpec;
 use job_table::laws::{users_are_joined, view_users_are_joined};
 use job_table::lesser;
 use library_steps::limits::MOST_PATHS;
-use path_entrants::same::is_same;
+use path_set::path_entrants::same::is_same;
 use std::alloc::AllocError;
 
 impl Contents {

@@ -1,3 +1,4 @@
 pub mod AllPaths
 pub mod KeptOnce
 pub mod PathOwners
+pub use Rattle.logical_laws.specs.Mapped

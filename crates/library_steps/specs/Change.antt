@@ -1,8 +1,8 @@
 -- What a request does where none of its refusals holds: the memory after it, the entries that it deposits, its reply, and whether they are forced first.
 -- (Journal Management, "Journal entries".)
 use Rattle.std.specs.Prelude.{◌+◌, Bool, false, Result, Ok, Err, List, [], ◌++◌, length}
-use Rattle.entry_codec.specs.declared.entries.Entry.{Entry}
-use Rattle.entry_codec.specs.declared.entries.Draft.{Draft}
+use Rattle.journal_model.below.entry_codec.specs.declared.entries.Entry.{Entry}
+use Rattle.journal_model.below.entry_codec.specs.declared.entries.Draft.{Draft}
 use Rattle.journal_model.specs.Rollback.{numbered_from}
 use Rattle.library_model.specs.declared.replies.Reply.{Reply}
 use Rattle.library_steps.specs.State.{Memory, State, with_entries}

@@ -2,12 +2,12 @@
 use Rattle.std.specs.Prelude.{ℕ, nat_lt, Bool, true, ◌&&◌, Option, Some, None, Result, Ok, List, [], ◌∷◌, ◌++◌, flat_map, length, min, unwrap_or, if◌then◌else◌}
 use Rattle.std.specs.List.{filter_map}
 use Rattle.std.specs.Option.{is_none, option_map, option_map_or}
-use Rattle.entry_codec.specs.declared.entries.Entry.{Entry}
-use Rattle.entry_codec.specs.declared.kinds.Images.{Images}
-use Rattle.entry_codec.specs.declared.kinds.Images.TheVariants.{After}
-use Rattle.entry_codec.specs.declared.kinds.FileKind.TheVariants.{Physical, Logical}
-use Rattle.entry_codec.specs.declared.kinds.EntryKind.{EntryKind}
-use Rattle.entry_codec.specs.declared.kinds.EntryKind.TheVariants.{FileCreated, MemberAdded, JournalingStarted, InitialSlot, JournalingEnded}
+use Rattle.journal_model.below.entry_codec.specs.declared.entries.Entry.{Entry}
+use Rattle.journal_model.below.entry_codec.specs.declared.kinds.Images.{Images}
+use Rattle.journal_model.below.entry_codec.specs.declared.kinds.Images.TheVariants.{After}
+use Rattle.journal_model.below.entry_codec.specs.declared.kinds.FileKind.TheVariants.{Physical, Logical}
+use Rattle.journal_model.below.entry_codec.specs.declared.kinds.EntryKind.{EntryKind}
+use Rattle.journal_model.below.entry_codec.specs.declared.kinds.EntryKind.TheVariants.{FileCreated, MemberAdded, JournalingStarted, InitialSlot, JournalingEnded}
 use Rattle.member_slots.specs.Member.{records}
 use Rattle.member_slots.specs.Members.{member_of}
 use Rattle.logical_model.specs.Bases.{FileSpec, PhysicalFile, LogicalFile}

@@ -1,15 +1,15 @@
 -- CRTPF: a physical file and its first member, made from a source. (CL reference, CRTPF; Database Programming; DDS for Physical and Logical Files.)
 use Rattle.std.specs.Prelude.{ℕ, ◌+◌, true, false, nat_le, nat_lt, Option, None, Result, Ok, Err, List, [], ◌∷◌, ◌++◌, length}
 use Rattle.std.specs.Option.{is_some, option_map}
-use Rattle.entry_codec.specs.declared.kinds.FileKind.TheVariants.{Physical}
-use Rattle.entry_codec.specs.declared.kinds.EntryKind.TheVariants.{FileCreated}
+use Rattle.journal_model.below.entry_codec.specs.declared.kinds.FileKind.TheVariants.{Physical}
+use Rattle.journal_model.below.entry_codec.specs.declared.kinds.EntryKind.TheVariants.{FileCreated}
 use Rattle.member_slots.specs.Member.{empty_member}
 use Rattle.member_slots.specs.Members.{put_member}
 use Rattle.record_fmt.specs.declared.formats.Format.{Format}
 use Rattle.record_fmt.specs.Layout.{record_length}
-use Rattle.dds_source.specs.declared.faults.DdsFault.{DdsFault}
-use Rattle.dds_source.specs.declared.specifications.Source.{Source}
-use Rattle.dds_source.specs.Reading.{source_of}
+use Rattle.dds_physical.below.dds_source.specs.declared.faults.DdsFault.{DdsFault}
+use Rattle.dds_physical.below.dds_source.specs.declared.specifications.Source.{Source}
+use Rattle.dds_physical.specs.Reading.{source_of}
 use Rattle.dds_physical.specs.declared.physical_files.PhysicalSpec.{PhysicalSpec}
 use Rattle.dds_physical.specs.Physical.{physical_of}
 use Rattle.logical_model.specs.Bases.{PhysicalFile}

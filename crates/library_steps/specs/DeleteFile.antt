@@ -1,11 +1,11 @@
 -- DLTF: a file is gone, and the members of a physical file with it. (CL reference, DLTF; Database Programming.)
 use Rattle.std.specs.Prelude.{ℕ, Bool, true, false, if◌then◌else◌, not, filter, Option, Some, None, Result, Ok, Err, List, [], ◌∷◌}
 use Rattle.std.specs.List.{list_any}
-use Rattle.entry_codec.specs.declared.kinds.EntryKind.TheVariants.{FileDeleted}
+use Rattle.journal_model.below.entry_codec.specs.declared.kinds.EntryKind.TheVariants.{FileDeleted}
 use Rattle.member_slots.specs.Members.{NumberedMembers, without_member}
-use Rattle.dds_source.specs.declared.faults.DdsFault.{DdsFault}
-use Rattle.dds_source.specs.declared.specifications.Source.{Source}
-use Rattle.dds_source.specs.Reading.{source_of}
+use Rattle.dds_physical.below.dds_source.specs.declared.faults.DdsFault.{DdsFault}
+use Rattle.dds_physical.below.dds_source.specs.declared.specifications.Source.{Source}
+use Rattle.dds_physical.specs.Reading.{source_of}
 use Rattle.dds_physical.specs.References.{refers_to}
 use Rattle.logical_model.specs.Bases.{FileSpec, PhysicalFile, LogicalFile, base_names, base_members}
 use Rattle.library_model.specs.declared.requests.DeleteFile.{DeleteFile}

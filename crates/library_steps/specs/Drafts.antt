@@ -1,9 +1,9 @@
 -- The entries that a request deposits, before they have a sequence: of the library, of a member, of a commit cycle.
 -- (Journal Management, "Fixed-length portion of the journal entry".)
 use Rattle.std.specs.Prelude.{ℕ, ◌+◌, Bool, true, false, Option, Some, None, List, [], ◌∷◌, map}
-use Rattle.entry_codec.specs.declared.entries.Draft.{Draft}
-use Rattle.entry_codec.specs.declared.kinds.EntryKind.{EntryKind}
-use Rattle.entry_codec.specs.declared.kinds.EntryKind.TheVariants.{RecordAdded, RecordAddedAtNumber, BeforeImage, AfterImage, RecordDeleted, InitialSlot}
+use Rattle.journal_model.below.entry_codec.specs.declared.entries.Draft.{Draft}
+use Rattle.journal_model.below.entry_codec.specs.declared.kinds.EntryKind.{EntryKind}
+use Rattle.journal_model.below.entry_codec.specs.declared.kinds.EntryKind.TheVariants.{RecordAdded, RecordAddedAtNumber, BeforeImage, AfterImage, RecordDeleted, InitialSlot}
 use Rattle.member_slots.specs.declared.slot.Slot.{Slot}
 use Rattle.member_slots.specs.declared.slot.Slot.TheVariants.{Live, Deleted}
 use Rattle.library_steps.specs.State.{Memory, job_of}

@@ -1,8 +1,8 @@
 -- ENDJOB: an open commit cycle is rolled back, commitment control ends, the job's opens are closed, and it has ended. (Work Management, ending a job.)
 use Rattle.std.specs.Prelude.{ℕ, true, Option, Some, None, Result, Ok, List, [], ◌∷◌, ◌++◌}
 use Rattle.commit_level.specs.declared.Level.{Level}
-use Rattle.entry_codec.specs.declared.entries.Draft.{Draft}
-use Rattle.entry_codec.specs.declared.kinds.EntryKind.TheVariants.{CommitmentEnded}
+use Rattle.journal_model.below.entry_codec.specs.declared.entries.Draft.{Draft}
+use Rattle.journal_model.below.entry_codec.specs.declared.kinds.EntryKind.TheVariants.{CommitmentEnded}
 use Rattle.lock_table.specs.declared.levels.Call.TheVariants.{EndJob}
 use Rattle.library_model.specs.declared.replies.Reply.{Reply}
 use Rattle.library_model.specs.declared.replies.Reply.TheVariants.{Done}

@@ -2,9 +2,9 @@
 -- bytes are our own.)
 use Rattle.std.specs.Prelude.{ℕ, ◌+◌, Some, None, List, length}
 use Rattle.std.specs.List.{sum_by}
-use Rattle.entry_codec.specs.declared.entries.Entry.{Entry}
-use Rattle.entry_codec.specs.declared.kinds.EntryKind.{EntryKind}
-use Rattle.entry_codec.specs.declared.kinds.EntryKind.TheVariants.{FileCreated, FileDeleted, MemberAdded, JournalingStarted, InitialSlot, JournalingEnded, MemberCleared, MemberReorganized, ChangesApplied, ChangesRemoved, RecordAdded, RecordAddedAtNumber, BeforeImage, AfterImage, RecordDeleted, UndoBeforeImage, UndoAfterImage, UndoDelete, CommitmentStarted, CommitCycleStarted, CommitCycleCommitted, CommitCycleRolledBack, CommitmentEnded, AbnormalEnd, NextReceiver, PreviousReceiver}
+use Rattle.journal_model.below.entry_codec.specs.declared.entries.Entry.{Entry}
+use Rattle.journal_model.below.entry_codec.specs.declared.kinds.EntryKind.{EntryKind}
+use Rattle.journal_model.below.entry_codec.specs.declared.kinds.EntryKind.TheVariants.{FileCreated, FileDeleted, MemberAdded, JournalingStarted, InitialSlot, JournalingEnded, MemberCleared, MemberReorganized, ChangesApplied, ChangesRemoved, RecordAdded, RecordAddedAtNumber, BeforeImage, AfterImage, RecordDeleted, UndoBeforeImage, UndoAfterImage, UndoDelete, CommitmentStarted, CommitCycleStarted, CommitCycleCommitted, CommitCycleRolledBack, CommitmentEnded, AbnormalEnd, NextReceiver, PreviousReceiver}
 
 -- names have 10 bytes there, a flag has one, and an image those of its record
 abbrev pub body_size : EntryKind → ℕ

@@ -1,7 +1,7 @@
 -- Which histories are legal: each call is of a job that runs, and has the reply of the step from the state that the calls before it left.
 -- A call that finds the store at fault is the last. (Our own.)
 use Rattle.std.specs.Prelude.{◌≡◌, Bool, false, not, IsTrue, List, [], ◌∷◌, Option, Some, None}
-use Rattle.entry_codec.specs.declared.entries.Entry.{Entry}
+use Rattle.journal_model.below.entry_codec.specs.declared.entries.Entry.{Entry}
 use Rattle.library_model.specs.declared.calls.Call.{Call}
 use Rattle.library_model.specs.declared.replies.Reply.TheVariants.{StoreFault}
 use Rattle.library_model.specs.declared.sources.NamedSource.{NamedSource}

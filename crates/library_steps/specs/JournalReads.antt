@@ -1,6 +1,6 @@
 -- Which entries of the journal a request names, and DSPJRN, which shows them. (Journal Management, DSPJRN.)
 use Rattle.std.specs.Prelude.{ℕ, ◌+◌, ◌-◌, ◌==◌, ◌||◌, Bool, nat_lt, Option, None, Result, Ok, List, take, drop}
-use Rattle.entry_codec.specs.declared.entries.Entry.{Entry}
+use Rattle.journal_model.below.entry_codec.specs.declared.entries.Entry.{Entry}
 use Rattle.journal_model.specs.Acts.{entry_before}
 use Rattle.library_model.specs.declared.requests.DisplayJournal.{DisplayJournal}
 use Rattle.library_model.specs.declared.replies.Reply.{Reply}

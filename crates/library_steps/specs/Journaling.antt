@@ -1,8 +1,8 @@
 -- STRJRNPF and ENDJRNPF: journaling of a member begins, with its records as they stand, or ends. (Journal Management, "Starting journaling".)
 use Rattle.std.specs.Prelude.{ℕ, ◌+◌, true, false, Some, None, Result, Ok, [], ◌∷◌, length}
 use Rattle.std.specs.Option.{is_some, is_none}
-use Rattle.entry_codec.specs.declared.kinds.Images.{Images}
-use Rattle.entry_codec.specs.declared.kinds.EntryKind.TheVariants.{JournalingStarted, JournalingEnded}
+use Rattle.journal_model.below.entry_codec.specs.declared.kinds.Images.{Images}
+use Rattle.journal_model.below.entry_codec.specs.declared.kinds.EntryKind.TheVariants.{JournalingStarted, JournalingEnded}
 use Rattle.member_slots.specs.Member.{records}
 use Rattle.member_slots.specs.Members.{member_of}
 use Rattle.library_model.specs.declared.requests.FileMember.{FileMember}

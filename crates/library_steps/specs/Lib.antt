@@ -26,3 +26,15 @@ pub mod ChangeRecord
 pub mod EndJob
 pub mod Step
 pub mod History
+pub use Rattle.file_model.specs.Joins
+pub use Rattle.file_model.specs.Paths
+pub use Rattle.file_model.specs.Positions
+pub use Rattle.journal_model.specs.Journal
+pub use Rattle.journal_model.specs.Replay
+pub use Rattle.journal_model.specs.Rollback
+pub use Rattle.library_model.specs.Named
+pub use Rattle.lock_table.specs.Levels
+pub use Rattle.lock_table.specs.Lock
+pub use Rattle.lock_table.specs.Table
+pub use Rattle.record_fmt.specs.Layout
+pub use Rattle.record_fmt.specs.Records as RecordFmtRecords

@@ -1,9 +1,9 @@
 -- ADDPFM, CLRPFM and RGZPFM: a member is added, loses its records, or loses its deleted places. (CL reference; Database Programming, "Physical file members".)
 use Rattle.std.specs.Prelude.{ℕ, ◌+◌, true, false, nat_le, nat_lt, Bool, Result, Ok, List, [], ◌∷◌, ◌++◌, length, map, if◌then◌else◌}
 use Rattle.std.specs.Option.{is_some}
-use Rattle.entry_codec.specs.declared.entries.Draft.{Draft}
-use Rattle.entry_codec.specs.declared.kinds.EntryKind.{EntryKind}
-use Rattle.entry_codec.specs.declared.kinds.EntryKind.TheVariants.{MemberAdded, MemberCleared, MemberReorganized}
+use Rattle.journal_model.below.entry_codec.specs.declared.entries.Draft.{Draft}
+use Rattle.journal_model.below.entry_codec.specs.declared.kinds.EntryKind.{EntryKind}
+use Rattle.journal_model.below.entry_codec.specs.declared.kinds.EntryKind.TheVariants.{MemberAdded, MemberCleared, MemberReorganized}
 use Rattle.member_slots.specs.Member.{MemberState, empty_member, cleared, reorganized}
 use Rattle.member_slots.specs.Members.{member_of, put_member, with_member}
 use Rattle.record_fmt.specs.Layout.{record_length}

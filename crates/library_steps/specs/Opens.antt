@@ -2,8 +2,8 @@
 use Rattle.std.specs.Prelude.{ℕ, ◌+◌, ◌||◌, nat_le, Option, Some, Bool, true, false, not, None, Result, Ok, List, [], ◌∷◌, ◌++◌, length, filter}
 use Rattle.std.specs.List.{find}
 use Rattle.std.specs.Option.{is_some, is_none}
-use Rattle.dds_logical.specs.declared.views.LogicalSpec.{LogicalSpec}
-use Rattle.dds_logical.specs.declared.views.LogicalSpec.TheVariants.{Simple, Multi, Join}
+use Rattle.logical_model.below.dds_logical.specs.declared.views.LogicalSpec.{LogicalSpec}
+use Rattle.logical_model.below.dds_logical.specs.declared.views.LogicalSpec.TheVariants.{Simple, Multi, Join}
 use Rattle.lock_table.specs.declared.levels.Call.TheVariants.{Close}
 use Rattle.file_model.specs.Positions.{Start}
 use Rattle.logical_model.specs.Bases.{FileSpec, PhysicalFile, LogicalFile, base_members}

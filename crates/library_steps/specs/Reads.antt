@@ -2,7 +2,7 @@
 -- That a refused read leaves position and locks, and that a position set gives up the current record, are our own.)
 use Rattle.std.specs.Prelude.{ℕ, ◌==◌, Option, Some, None, Result, Ok, Err, List, [], slice_get, unwrap_or, if◌then◌else◌}
 use Rattle.std.specs.Option.{option_map}
-use Rattle.dds_logical.specs.declared.join_views.JoinView.{JoinView}
+use Rattle.logical_model.below.dds_logical.specs.declared.join_views.JoinView.{JoinView}
 use Rattle.lock_table.specs.declared.levels.Call.{Call}
 use Rattle.lock_table.specs.declared.levels.Call.TheVariants.{InputRead, UpdateRead, Position as PositionCall}
 use Rattle.file_model.specs.KeyOrder.{KeyValue}

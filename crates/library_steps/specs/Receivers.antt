@@ -2,9 +2,9 @@
 use Rattle.std.specs.Prelude.{ℕ, ◌+◌, ◌==◌, ◌&&◌, ◌||◌, true, false, Bool, not, nat_le, nat_lt, Option, Some, None, Result, Ok, List, [], ◌∷◌, unwrap_or}
 use Rattle.std.specs.List.{find}
 use Rattle.std.specs.Option.{option_map, option_map_or}
-use Rattle.entry_codec.specs.declared.entries.Entry.{Entry}
-use Rattle.entry_codec.specs.declared.kinds.EntryKind.{EntryKind}
-use Rattle.entry_codec.specs.declared.kinds.EntryKind.TheVariants.{NextReceiver, FileCreated, FileDeleted, MemberAdded, JournalingStarted, InitialSlot, JournalingEnded, MemberCleared, MemberReorganized, ChangesApplied, ChangesRemoved, RecordAdded, RecordAddedAtNumber, BeforeImage, AfterImage, RecordDeleted, UndoBeforeImage, UndoAfterImage, UndoDelete, CommitmentStarted, CommitCycleStarted, CommitCycleCommitted, CommitCycleRolledBack, CommitmentEnded, AbnormalEnd, PreviousReceiver}
+use Rattle.journal_model.below.entry_codec.specs.declared.entries.Entry.{Entry}
+use Rattle.journal_model.below.entry_codec.specs.declared.kinds.EntryKind.{EntryKind}
+use Rattle.journal_model.below.entry_codec.specs.declared.kinds.EntryKind.TheVariants.{NextReceiver, FileCreated, FileDeleted, MemberAdded, JournalingStarted, InitialSlot, JournalingEnded, MemberCleared, MemberReorganized, ChangesApplied, ChangesRemoved, RecordAdded, RecordAddedAtNumber, BeforeImage, AfterImage, RecordDeleted, UndoBeforeImage, UndoAfterImage, UndoDelete, CommitmentStarted, CommitCycleStarted, CommitCycleCommitted, CommitCycleRolledBack, CommitmentEnded, AbnormalEnd, PreviousReceiver}
 use Rattle.library_model.specs.declared.requests.DeleteReceiver.{DeleteReceiver}
 use Rattle.library_model.specs.declared.replies.Reply.{Reply}
 use Rattle.library_model.specs.declared.replies.Reply.TheVariants.{NoSuchName, StillNeeded, LimitReached, Receiver as ReceiverReply, Done}

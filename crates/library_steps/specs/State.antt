@@ -3,8 +3,8 @@
 use Rattle.std.specs.Prelude.{ℕ, zero, suc, ◌+◌, ◌-◌, Bool, false, if◌then◌else◌, ◌==◌, Option, Some, None, List, [], ◌∷◌, ◌++◌, length, map, drop, slice_get}
 use Rattle.std.specs.Option.{option_and_then}
 use Rattle.commit_level.specs.declared.Level.{Level}
-use Rattle.entry_codec.specs.declared.entries.Entry.{Entry}
-use Rattle.entry_codec.specs.declared.kinds.Images.{Images}
+use Rattle.journal_model.below.entry_codec.specs.declared.entries.Entry.{Entry}
+use Rattle.journal_model.below.entry_codec.specs.declared.kinds.Images.{Images}
 use Rattle.record_fmt.specs.declared.formats.Field.{Field}
 use Rattle.record_fmt.specs.declared.formats.Format.{Format}
 use Rattle.dds_physical.specs.declared.physical_files.PhysicalSpec.{PhysicalSpec}

@@ -3,3 +3,8 @@
 #![tactic(auto)]
 
 pub mod limits;
+
+pub use dds_physical;
+pub use library_model;
+pub use lock_table;
+pub use record_fmt;

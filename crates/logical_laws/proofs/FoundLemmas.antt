@@ -6,10 +6,10 @@ use Rattle.member_slots.specs.declared.slot.Slot.{Slot}
 use Rattle.member_slots.specs.declared.slot.Slot.TheVariants.{Live, Deleted}
 use Rattle.member_slots.specs.Member.{MemberState, slot_at, records_from}
 use Rattle.member_slots.specs.Members.{NumberedMembers, member_of}
-use Rattle.dds_logical.specs.declared.views.View.{View}
-use Rattle.dds_logical.specs.declared.views.LogicalSpec.{LogicalSpec}
-use Rattle.dds_logical.specs.declared.views.LogicalSpec.TheVariants.{Simple, Multi, Join}
-use Rattle.dds_logical.specs.declared.join_views.JoinView.{JoinView}
+use Rattle.logical_model.below.dds_logical.specs.declared.views.View.{View}
+use Rattle.logical_model.below.dds_logical.specs.declared.views.LogicalSpec.{LogicalSpec}
+use Rattle.logical_model.below.dds_logical.specs.declared.views.LogicalSpec.TheVariants.{Simple, Multi, Join}
+use Rattle.logical_model.below.dds_logical.specs.declared.join_views.JoinView.{JoinView}
 use Rattle.file_model.specs.declared.joins.Secondary.{Secondary}
 use Rattle.file_model.specs.declared.paths.PathFormat.{PathFormat}
 use Rattle.file_model.specs.declared.paths.PathSpec.{PathSpec}

@@ -16,19 +16,19 @@ use Rattle.field_values.specs.FieldTypes.{IsFieldType, width}
 use Rattle.field_values.specs.FieldBytes.{held, written, fault_of}
 use Rattle.field_values.proofs.FieldLemmas.{field, held-char}
 use Rattle.field_laws.proofs.WrittenLemmas.{stands-written}
-use Rattle.record_fmt.specs.declared.formats.Field.{Field}
-use Rattle.record_fmt.specs.Layout.{record_length, lies_from, IsLaidOut}
-use Rattle.record_fmt.specs.Records.{both, fields_held, record_held}
-use Rattle.record_fmt.proofs.LayoutLemmas.{lies-parts, allowed-at}
-use Rattle.record_fmt.proofs.HeldLemmas.{held-length}
+use Rattle.file_model.below.record_fmt.specs.declared.formats.Field.{Field}
+use Rattle.file_model.specs.Layout.{record_length, lies_from, IsLaidOut}
+use Rattle.file_model.specs.Records.{both, fields_held, record_held}
+use Rattle.file_model.proofs.LayoutLemmas.{lies-parts, allowed-at}
+use Rattle.file_model.proofs.HeldLemmas.{held-length}
 use Rattle.file_model.specs.declared.views.Piece.{Piece}
 use Rattle.file_model.specs.declared.views.FieldSource.{FieldSource}
 use Rattle.file_model.specs.declared.views.FieldSource.TheVariants.{Copied, Converted, Concatenated, Substring}
 use Rattle.file_model.specs.declared.views.LogicalField.{LogicalField}
 use Rattle.file_model.specs.Views.{put_at, put_pieces, pieces_length, character, stored_type, put_value, first_fault, refusal, put_or_refused, put_given, default_image, old_or_default, base_image}
-use Rattle.dds_logical.specs.declared.views.View.{View}
-use Rattle.dds_logical.specs.declared.views.LogicalSpec.{LogicalSpec}
-use Rattle.dds_logical.specs.declared.views.LogicalSpec.TheVariants.{Simple, Multi, Join}
+use Rattle.logical_model.below.dds_logical.specs.declared.views.View.{View}
+use Rattle.logical_model.below.dds_logical.specs.declared.views.LogicalSpec.{LogicalSpec}
+use Rattle.logical_model.below.dds_logical.specs.declared.views.LogicalSpec.TheVariants.{Simple, Multi, Join}
 use Rattle.logical_model.specs.Bases.{Bases, LogicalFile, base_names}
 use Rattle.logical_model.specs.Formats.{given_through, given_by, given_in}
 use Rattle.logical_laws.specs.Mapped.{IsFieldAt, IsTextAt, IsSourceMapped, IsFieldMapped, IsViewMapped, IsSpecMapped, HoldDefaults}

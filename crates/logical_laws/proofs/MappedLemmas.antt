@@ -8,14 +8,14 @@ use lib.Pointwise.{pointwise}
 use Rattle.field_types.specs.declared.kinds.Kind.{Kind}
 use Rattle.field_types.specs.declared.kinds.Kind.TheVariants.{Char, Zoned, Packed, Binary, Date, Time, Stamp}
 use Rattle.field_types.specs.declared.kinds.FieldType.{FieldType}
-use Rattle.record_fmt.specs.declared.formats.Field.{Field}
-use Rattle.dds_source.specs.declared.arguments.Argument.{Argument}
-use Rattle.dds_source.specs.declared.faults.DdsFault.{DdsFault}
-use Rattle.dds_source.specs.declared.keywords.Keyword.{Keyword}
-use Rattle.dds_source.specs.declared.specifications.Source.{Source}
-use Rattle.dds_source.specs.declared.specifications.Specification.{Specification}
-use Rattle.dds_source.specs.Entries.{when}
-use Rattle.dds_source.specs.Faults.{first_after}
+use Rattle.file_model.below.record_fmt.specs.declared.formats.Field.{Field}
+use Rattle.dds_physical.below.dds_source.specs.declared.arguments.Argument.{Argument}
+use Rattle.dds_physical.below.dds_source.specs.declared.faults.DdsFault.{DdsFault}
+use Rattle.dds_physical.below.dds_source.specs.declared.keywords.Keyword.{Keyword}
+use Rattle.dds_physical.below.dds_source.specs.declared.specifications.Source.{Source}
+use Rattle.dds_physical.below.dds_source.specs.declared.specifications.Specification.{Specification}
+use Rattle.dds_physical.specs.Entries.{when}
+use Rattle.dds_physical.specs.Faults.{first_after}
 use Rattle.dds_physical.specs.declared.physical_files.PhysicalSpec.{PhysicalSpec}
 use Rattle.dds_physical.specs.Names.{name_of, field_named}
 use Rattle.dds_physical.specs.Keywords.{has_name, first_named, is_there, arguments_of}
@@ -26,25 +26,25 @@ use Rattle.dds_physical.specs.References.{file_of, file_of_keyword}
 use Rattle.dds_physical.proofs.FaultLemmas.{nothing_noted}
 use Rattle.file_model.specs.declared.views.FieldSource.{FieldSource}
 use Rattle.file_model.specs.declared.views.FieldSource.TheVariants.{Copied, Converted, Concatenated, Substring}
-use Rattle.dds_logical.specs.declared.join_views.JoinedFile.{JoinedFile}
-use Rattle.dds_logical.specs.declared.keyword_places.KeywordPlace.TheVariants as places
-use Rattle.dds_logical.specs.declared.limits.TheConstants.{MOST_JOINED}
-use Rattle.dds_logical.specs.declared.views.View.{View}
-use Rattle.dds_logical.specs.declared.views.LogicalSpec.{LogicalSpec}
-use Rattle.dds_logical.specs.declared.views.LogicalSpec.TheVariants.{Join}
-use Rattle.dds_logical.specs.Bases.{fields_of_base, fields_of_name}
-use Rattle.dds_logical.specs.Complete.{IsComplete, AreComplete}
-use Rattle.dds_logical.specs.Fields.{kind_letter, is_same_type, source_at, typed_field, field_over, field_of_line, field_as_it_is, named_fields, mapping_of, is_read_only_mapping, says_read_only}
-use Rattle.dds_logical.specs.FormatLines.{FormatLines, formats_in, field_lines, join_lines, based_on, is_join_keyword, is_join_file, is_multi_format}
-use Rattle.dds_logical.specs.JoinLines.{lines_to, joined_by_first, joined_from}
-use Rattle.dds_logical.specs.JoinViews.{files_joined, fields_joined, first_file, join_described, join_faults}
-use Rattle.dds_logical.specs.KeywordArguments.{names_among, is_file_or_field, are_names, fit_logical_keyword, takes_its_arguments}
-use Rattle.dds_logical.specs.KeywordRules.{stands_at, unknown_faults, argument_faults, twice_faults, logical_keyword_faults}
-use Rattle.dds_logical.specs.Keys.{mismatch_faults}
-use Rattle.dds_logical.specs.Logical.{base_name, base_of, view_described, most_parts, one_or_several, view_faults, join_described_by, described_by, formats_at_fault, faults_over, unless_fault, logical_specification, logical_faults, logical_of, format_parts}
-use Rattle.dds_logical.specs.Origins.{Origin, keyword_names, origin_names, fields_of_names, lacks_one, is_character, are_characters, if_within, part_said, whole_field, first_copied, concatenated, part_origin, substring_of, arguments_said, made_of, origin}
-use Rattle.dds_logical.specs.WholeFile.{is_no_base, base_faults, head_faults}
-use Rattle.dds_logical.proofs.CompleteLemmas.{complete_file}
+use Rattle.logical_model.below.dds_logical.specs.declared.join_views.JoinedFile.{JoinedFile}
+use Rattle.logical_model.below.dds_logical.specs.declared.keyword_places.KeywordPlace.TheVariants as places
+use Rattle.logical_model.below.dds_logical.specs.declared.limits.TheConstants.{MOST_JOINED}
+use Rattle.logical_model.below.dds_logical.specs.declared.views.View.{View}
+use Rattle.logical_model.below.dds_logical.specs.declared.views.LogicalSpec.{LogicalSpec}
+use Rattle.logical_model.below.dds_logical.specs.declared.views.LogicalSpec.TheVariants.{Join}
+use Rattle.logical_model.specs.DdsLogicalBases.{fields_of_base, fields_of_name}
+use Rattle.logical_model.specs.Complete.{IsComplete, AreComplete}
+use Rattle.logical_model.specs.Fields.{kind_letter, is_same_type, source_at, typed_field, field_over, field_of_line, field_as_it_is, named_fields, mapping_of, is_read_only_mapping, says_read_only}
+use Rattle.logical_model.specs.FormatLines.{FormatLines, formats_in, field_lines, join_lines, based_on, is_join_keyword, is_join_file, is_multi_format}
+use Rattle.logical_model.specs.JoinLines.{lines_to, joined_by_first, joined_from}
+use Rattle.logical_model.specs.JoinViews.{files_joined, fields_joined, first_file, join_described, join_faults}
+use Rattle.logical_model.specs.KeywordArguments.{names_among, is_file_or_field, are_names, fit_logical_keyword, takes_its_arguments}
+use Rattle.logical_model.specs.KeywordRules.{stands_at, unknown_faults, argument_faults, twice_faults, logical_keyword_faults}
+use Rattle.logical_model.specs.Keys.{mismatch_faults}
+use Rattle.logical_model.specs.Logical.{base_name, base_of, view_described, most_parts, one_or_several, view_faults, join_described_by, described_by, formats_at_fault, faults_over, unless_fault, logical_specification, logical_faults, logical_of, format_parts}
+use Rattle.logical_model.specs.Origins.{Origin, keyword_names, origin_names, fields_of_names, lacks_one, is_character, are_characters, if_within, part_said, whole_field, first_copied, concatenated, part_origin, substring_of, arguments_said, made_of, origin}
+use Rattle.logical_model.specs.WholeFile.{is_no_base, base_faults, head_faults}
+use Rattle.logical_model.proofs.CompleteLemmas.{complete_file}
 use Rattle.logical_model.specs.Bases.{Bases, base_names}
 use Rattle.logical_laws.specs.Mapped.{IsFieldAt, IsTextAt, IsSourceMapped, IsFieldMapped, IsViewMapped, IsSpecMapped, AreBasesOf}
 use Rattle.logical_laws.proofs.ListLemmas.{each-weaker, each-append, each-map}

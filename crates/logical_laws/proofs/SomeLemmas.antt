@@ -1,15 +1,15 @@
 -- A logical file that a source describes has a format.
 use Rattle.std.proofs.Common.{◌≡◌, ℕ, Bool, true, false, if◌then◌else◌, Option, Some, None, IsSome, slice_get, Ok, List, [], ◌∷◌, ◌++◌, map, refl, subst}
-use Rattle.dds_source.specs.Faults.{first_after}
-use Rattle.dds_source.specs.declared.faults.DdsFault.{DdsFault}
-use Rattle.dds_source.specs.declared.specifications.Source.{Source}
+use Rattle.dds_physical.specs.Faults.{first_after}
+use Rattle.dds_physical.below.dds_source.specs.declared.faults.DdsFault.{DdsFault}
+use Rattle.dds_physical.below.dds_source.specs.declared.specifications.Source.{Source}
 use Rattle.dds_physical.specs.declared.physical_files.PhysicalSpec.{PhysicalSpec}
 use Rattle.dds_physical.proofs.FaultLemmas.{nothing_noted}
-use Rattle.dds_logical.specs.declared.views.View.{View}
-use Rattle.dds_logical.specs.declared.views.LogicalSpec.{LogicalSpec}
-use Rattle.dds_logical.specs.FormatLines.{FormatLines, formats_in, is_join_file, is_multi_format}
-use Rattle.dds_logical.specs.Logical.{described_by, join_described_by, logical_faults, logical_of, logical_specification, most_parts, one_or_several, unless_fault, view_described}
-use Rattle.dds_logical.specs.WholeFile.{format_missing_faults}
+use Rattle.logical_model.below.dds_logical.specs.declared.views.View.{View}
+use Rattle.logical_model.below.dds_logical.specs.declared.views.LogicalSpec.{LogicalSpec}
+use Rattle.logical_model.specs.FormatLines.{FormatLines, formats_in, is_join_file, is_multi_format}
+use Rattle.logical_model.specs.Logical.{described_by, join_described_by, logical_faults, logical_of, logical_specification, most_parts, one_or_several, unless_fault, view_described}
+use Rattle.logical_model.specs.WholeFile.{format_missing_faults}
 use Rattle.logical_model.specs.Bases.{base_names}
 
 none-right : {X : Type 0} (xs ys : List X) → xs ++ ys ≡ [] → ys ≡ []

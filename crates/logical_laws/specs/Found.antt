@@ -3,9 +3,9 @@ use Rattle.std.specs.Prelude.{◌≡◌, ℕ, true, Some, is_some, List, length,
 use Rattle.member_slots.specs.declared.slot.Slot.TheVariants.{Live}
 use Rattle.member_slots.specs.Member.{slot_at}
 use Rattle.member_slots.specs.Members.{NumberedMembers, member_of}
-use Rattle.record_fmt.specs.declared.formats.Field.{Field}
-use Rattle.record_fmt.specs.Layout.{record_length}
-use Rattle.record_fmt.specs.Records.{record_held}
+use Rattle.file_model.below.record_fmt.specs.declared.formats.Field.{Field}
+use Rattle.file_model.specs.Layout.{record_length}
+use Rattle.file_model.specs.Records.{record_held}
 use Rattle.file_model.specs.Paths.{PathEntry}
 
 -- these are the members of the formats, in their order

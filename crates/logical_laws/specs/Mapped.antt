@@ -4,15 +4,15 @@ use Rattle.std.specs.List.{AllByRecursion}
 use Rattle.field_types.specs.declared.kinds.Kind.TheVariants.{Char}
 use Rattle.field_types.specs.declared.kinds.FieldType.{FieldType}
 use Rattle.field_values.specs.FieldBytes.{fault_of}
-use Rattle.record_fmt.specs.declared.formats.Field.{Field}
+use Rattle.file_model.below.record_fmt.specs.declared.formats.Field.{Field}
 use Rattle.file_model.specs.declared.views.FieldSource.{FieldSource}
 use Rattle.file_model.specs.declared.views.FieldSource.TheVariants.{Copied, Converted, Concatenated, Substring}
 use Rattle.file_model.specs.declared.views.LogicalField.{LogicalField}
 use Rattle.file_model.specs.declared.views.Piece.{Piece}
 use Rattle.dds_physical.specs.declared.physical_files.PhysicalSpec.{PhysicalSpec}
-use Rattle.dds_logical.specs.declared.views.View.{View}
-use Rattle.dds_logical.specs.declared.views.LogicalSpec.{LogicalSpec}
-use Rattle.dds_logical.specs.declared.views.LogicalSpec.TheVariants.{Simple, Multi, Join}
+use Rattle.logical_model.below.dds_logical.specs.declared.views.View.{View}
+use Rattle.logical_model.below.dds_logical.specs.declared.views.LogicalSpec.{LogicalSpec}
+use Rattle.logical_model.below.dds_logical.specs.declared.views.LogicalSpec.TheVariants.{Simple, Multi, Join}
 use Rattle.logical_model.specs.Bases.{Bases, base_names}
 
 -- a field of this type begins at this byte of a record

@@ -2,13 +2,13 @@
 ghost use Rattle.std.specs.Prelude.{◌≡◌, ℕ, Option, Some, Ok, IfSome, IsSome, List, [], ◌∷◌, slice_get, Contains};
 ghost use Rattle.std.specs.List.{AllByRecursion};
 ghost use Rattle.field_types.specs.declared.values.Value.{Value};
-ghost use Rattle.record_fmt.specs.Layout.{IsLaidOut};
+ghost use Rattle.file_model.specs.Layout.{IsLaidOut};
 ghost use Rattle.member_slots.specs.Members.{NumberedMembers};
-ghost use Rattle.dds_source.specs.declared.specifications.Source.{Source};
+ghost use Rattle.dds_physical.below.dds_source.specs.declared.specifications.Source.{Source};
 ghost use Rattle.dds_physical.specs.declared.physical_files.PhysicalSpec.{PhysicalSpec};
-ghost use Rattle.dds_logical.specs.declared.views.LogicalSpec.{LogicalSpec};
-ghost use Rattle.dds_logical.specs.declared.join_views.JoinView.{JoinView};
-ghost use Rattle.dds_logical.specs.Logical.{logical_of};
+ghost use Rattle.logical_model.below.dds_logical.specs.declared.views.LogicalSpec.{LogicalSpec};
+ghost use Rattle.logical_model.below.dds_logical.specs.declared.join_views.JoinView.{JoinView};
+ghost use Rattle.logical_model.specs.Logical.{logical_of};
 ghost use Rattle.file_model.specs.Paths.{PathEntry};
 ghost use Rattle.file_model.specs.Joins.{RowPlace};
 ghost use Rattle.logical_model.specs.Bases.{Bases, LogicalFile, base_names, base_members};

@@ -1,7 +1,7 @@
 -- What is a file by its data description, and over which members does a logical file stand? (DDS for Physical and Logical Files, "PFILE", "JFILE".)
 use Rattle.std.specs.Prelude.{ℕ, List, [], ◌∷◌, map}
-use Rattle.record_fmt.specs.declared.formats.Field.{Field}
-use Rattle.dds_physical.specs.declared.physical_files.PhysicalSpec.{PhysicalSpec}
+use Rattle.dds_logical.below.record_fmt.specs.declared.formats.Field.{Field}
+use Rattle.dds_logical.below.dds_physical.specs.declared.physical_files.PhysicalSpec.{PhysicalSpec}
 use Rattle.dds_logical.specs.declared.views.LogicalSpec.{LogicalSpec}
 use Rattle.dds_logical.specs.declared.views.LogicalSpec.TheVariants.{Simple, Multi, Join}
 

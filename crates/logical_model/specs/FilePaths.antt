@@ -8,13 +8,13 @@ use Rattle.dds_logical.specs.declared.views.LogicalSpec.{LogicalSpec}
 use Rattle.dds_logical.specs.declared.views.LogicalSpec.TheVariants.{Simple, Multi, Join}
 use Rattle.dds_logical.specs.declared.join_views.JoinView.{JoinView}
 use Rattle.dds_logical.specs.declared.join_views.JoinedFile.{JoinedFile}
-use Rattle.file_model.specs.declared.joins.JoinSpec.{JoinSpec}
-use Rattle.file_model.specs.declared.joins.Secondary.{Secondary}
-use Rattle.file_model.specs.declared.paths.PathFormat.{PathFormat}
-use Rattle.file_model.specs.declared.paths.PathSpec.{PathSpec}
-use Rattle.file_model.specs.FilePaths.{path_format, every_record}
-use Rattle.file_model.specs.Joins.{paths_of_join}
-use Rattle.file_model.specs.Views.{default_image}
+use Rattle.dds_logical.below.file_model.specs.declared.joins.JoinSpec.{JoinSpec}
+use Rattle.dds_logical.below.file_model.specs.declared.joins.Secondary.{Secondary}
+use Rattle.dds_logical.below.file_model.specs.declared.paths.PathFormat.{PathFormat}
+use Rattle.dds_logical.below.file_model.specs.declared.paths.PathSpec.{PathSpec}
+use Rattle.dds_logical.specs.FilePaths.{path_format, every_record}
+use Rattle.dds_logical.specs.Joins.{paths_of_join}
+use Rattle.dds_logical.specs.Views.{default_image}
 use Rattle.logical_model.specs.Bases.{Bases}
 
 -- a format in its file's path

@@ -1,15 +1,15 @@
 -- What do a file's formats show of records, and which records do values make that are given through them?
 -- (DDS for Physical and Logical Files; Database Programming, "Using a logical file".)
 use Rattle.std.specs.Prelude.{ℕ, nat_lt, Bool, Option, Some, None, Result, Err, List, [], ◌∷◌, map, slice_get, length, unwrap_or, if◌then◌else◌}
-use Rattle.file_model.specs.KeyOrder.{merged_parts}
+use Rattle.dds_logical.specs.KeyOrder.{merged_parts}
 use Rattle.std.specs.List.{position}
 use Rattle.std.specs.Str.{bytes_eq}
 use Rattle.std.specs.Ordering.{is_eq}
 use Rattle.field_types.specs.declared.values.Value.{Value}
 use Rattle.field_types.specs.declared.faults.RecordFault.{RecordFault}
 use Rattle.field_types.specs.declared.faults.RecordFault.TheVariants.{Count}
-use Rattle.record_fmt.specs.declared.formats.Field.{Field}
-use Rattle.record_fmt.specs.Records.{record_held, record_given}
+use Rattle.dds_logical.below.record_fmt.specs.declared.formats.Field.{Field}
+use Rattle.dds_logical.specs.Records.{record_held, record_given}
 use Rattle.key_spec.specs.declared.KeyPart.{KeyPart}
 use Rattle.key_spec.specs.declared.Ties.{Ties}
 use Rattle.member_slots.specs.Members.{NumberedMembers}
@@ -17,9 +17,9 @@ use Rattle.dds_logical.specs.declared.views.View.{View}
 use Rattle.dds_logical.specs.declared.views.LogicalSpec.TheVariants.{Simple, Multi, Join}
 use Rattle.dds_logical.specs.declared.join_views.JoinView.{JoinView}
 use Rattle.dds_logical.specs.declared.join_views.JoinedField.{JoinedField}
-use Rattle.file_model.specs.declared.joins.JoinSpec.{JoinSpec}
-use Rattle.file_model.specs.Joins.{RowPlace, JoinRow, compare_places, row_image, rows_of}
-use Rattle.file_model.specs.Views.{base_image, logical_image}
+use Rattle.dds_logical.below.file_model.specs.declared.joins.JoinSpec.{JoinSpec}
+use Rattle.dds_logical.specs.Joins.{RowPlace, JoinRow, compare_places, row_image, rows_of}
+use Rattle.dds_logical.specs.Views.{base_image, logical_image}
 use Rattle.logical_model.specs.Bases.{Bases, FileSpec, PhysicalFile, LogicalFile}
 use Rattle.logical_model.specs.FilePaths.{join_of}
 

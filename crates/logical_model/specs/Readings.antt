@@ -1,14 +1,14 @@
 -- In which order are the records of a file read? (Database Programming, "Processing a database file": keyed and arrival sequence.)
 use Rattle.std.specs.Prelude.{ℕ, Bool, true, false, Option, Some, None, [], ◌∷◌}
-use Rattle.dds_physical.specs.declared.physical_files.PhysicalSpec.{PhysicalSpec}
+use Rattle.dds_logical.below.dds_physical.specs.declared.physical_files.PhysicalSpec.{PhysicalSpec}
 use Rattle.dds_logical.specs.declared.views.LogicalSpec.{LogicalSpec}
 use Rattle.dds_logical.specs.declared.views.LogicalSpec.TheVariants.{Simple, Multi, Join}
 use Rattle.dds_logical.specs.declared.join_views.JoinView.{JoinView}
-use Rattle.file_model.specs.declared.paths.PathSpec.{PathSpec}
-use Rattle.file_model.specs.FilePaths.{physical_path}
-use Rattle.file_model.specs.Joins.{RowPlace, rows_of}
-use Rattle.file_model.specs.Paths.{PathEntry, path}
-use Rattle.file_model.specs.Positions.{Reading, path_reading, arrival_reading, join_reading}
+use Rattle.dds_logical.below.file_model.specs.declared.paths.PathSpec.{PathSpec}
+use Rattle.dds_logical.specs.FilePaths.{physical_path}
+use Rattle.dds_logical.specs.Joins.{RowPlace, rows_of}
+use Rattle.dds_logical.specs.Paths.{PathEntry, path}
+use Rattle.dds_logical.specs.Positions.{Reading, path_reading, arrival_reading, join_reading}
 use Rattle.member_slots.specs.Members.{NumberedMembers, member_of}
 use Rattle.logical_model.specs.Bases.{Bases, FileSpec, PhysicalFile, LogicalFile}
 use Rattle.logical_model.specs.FilePaths.{views_path, primary_path, join_of}

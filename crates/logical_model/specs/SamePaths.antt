@@ -14,21 +14,21 @@ use Rattle.key_spec.specs.declared.KeyPart.{KeyPart}
 use Rattle.key_spec.specs.declared.KeyPart.TheVariants.{Field, Absent}
 use Rattle.key_spec.specs.declared.Ties.{Ties}
 use Rattle.key_spec.specs.declared.Ties.TheVariants.{Rising, Falling}
-use Rattle.file_model.specs.declared.views.Piece.{Piece}
-use Rattle.file_model.specs.declared.views.FieldSource.{FieldSource}
-use Rattle.file_model.specs.declared.views.FieldSource.TheVariants.{Copied, Converted, Concatenated, Substring}
-use Rattle.file_model.specs.declared.views.ViewField.{ViewField}
-use Rattle.file_model.specs.declared.rules.Relation.{Relation}
-use Rattle.file_model.specs.declared.rules.Relation.TheVariants.{Equals, Differs, Below, AtMost, Above, AtLeast}
-use Rattle.file_model.specs.declared.rules.Test.{Test}
-use Rattle.file_model.specs.declared.rules.Test.TheVariants as tests
-use Rattle.file_model.specs.declared.rules.Condition.{Condition}
-use Rattle.file_model.specs.declared.rules.Choice.{Choice}
-use Rattle.file_model.specs.declared.rules.Choice.TheVariants.{Select, Omit}
-use Rattle.file_model.specs.declared.rules.Statement.{Statement}
-use Rattle.file_model.specs.declared.rules.Rules.{Rules}
-use Rattle.file_model.specs.declared.paths.PathFormat.{PathFormat}
-use Rattle.file_model.specs.declared.paths.PathSpec.{PathSpec}
+use Rattle.dds_logical.below.file_model.specs.declared.views.Piece.{Piece}
+use Rattle.dds_logical.below.file_model.specs.declared.views.FieldSource.{FieldSource}
+use Rattle.dds_logical.below.file_model.specs.declared.views.FieldSource.TheVariants.{Copied, Converted, Concatenated, Substring}
+use Rattle.dds_logical.below.file_model.specs.declared.views.ViewField.{ViewField}
+use Rattle.dds_logical.below.file_model.specs.declared.rules.Relation.{Relation}
+use Rattle.dds_logical.below.file_model.specs.declared.rules.Relation.TheVariants.{Equals, Differs, Below, AtMost, Above, AtLeast}
+use Rattle.dds_logical.below.file_model.specs.declared.rules.Test.{Test}
+use Rattle.dds_logical.below.file_model.specs.declared.rules.Test.TheVariants as tests
+use Rattle.dds_logical.below.file_model.specs.declared.rules.Condition.{Condition}
+use Rattle.dds_logical.below.file_model.specs.declared.rules.Choice.{Choice}
+use Rattle.dds_logical.below.file_model.specs.declared.rules.Choice.TheVariants.{Select, Omit}
+use Rattle.dds_logical.below.file_model.specs.declared.rules.Statement.{Statement}
+use Rattle.dds_logical.below.file_model.specs.declared.rules.Rules.{Rules}
+use Rattle.dds_logical.below.file_model.specs.declared.paths.PathFormat.{PathFormat}
+use Rattle.dds_logical.below.file_model.specs.declared.paths.PathSpec.{PathSpec}
 
 abbrev same_flag : Bool → Bool → Bool
 same_flag true flag = flag

@@ -7,7 +7,7 @@ use Rattle.std.proofs.lemmas.List.{length-map}
 use Rattle.record_fmt.specs.declared.formats.Field.{Field}
 use Rattle.record_fmt.specs.Layout.{IsLaidOut}
 use Rattle.key_spec.specs.declared.KeyPart.{KeyPart}
-use Rattle.key_order.specs.KeyFields.{Matches}
+use Rattle.access_path.specs.KeyFields.{Matches}
 use Rattle.dds_source.specs.declared.faults.DdsFault.{DdsFault}
 use Rattle.dds_source.specs.declared.keywords.Keyword.{Keyword}
 use Rattle.dds_source.specs.declared.specifications.Source.{Source}
@@ -34,7 +34,7 @@ use Rattle.dds_logical.specs.Logical.{formats_at_fault, faults_over, unless_faul
 use Rattle.dds_logical.specs.WholeFile.{formats_faults}
 use Rattle.dds_logical.proofs.CompleteLemmas.{complete_file, few_left, nothing_in}
 use Rattle.dds_logical.proofs.JoinCompleteLemmas.{complete_unless}
-use Rattle.logical_model.specs.Bases.{Bases, base_names}
+use Rattle.logical_laws.specs.Bases.{Bases, base_names}
 use Rattle.logical_laws.specs.Mapped.{AreBasesOf}
 use Rattle.logical_laws.proofs.MappedLemmas.{described-there}
 use Rattle.logical_paths.specs.Steps.{shown_of}

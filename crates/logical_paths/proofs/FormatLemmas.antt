@@ -9,9 +9,9 @@ use Rattle.member_slots.specs.Member.{records_from}
 use Rattle.member_slots.specs.Members.{NumberedMembers, member_of}
 use Rattle.record_fmt.specs.declared.formats.Field.{Field}
 use Rattle.record_fmt.specs.Layout.{IsLaidOut}
-use Rattle.key_order.specs.declared.widths.TheConstants.{MOST_POSITIONS}
-use Rattle.key_order.specs.KeyFields.{AreBytes, HasKey, key_width}
-use Rattle.key_order.proofs.ViewLemmas.{view-bytes}
+use Rattle.access_path.below.key_order.specs.declared.widths.TheConstants.{MOST_POSITIONS}
+use Rattle.access_path.specs.KeyFields.{AreBytes, HasKey, key_width}
+use Rattle.access_path.proofs.ViewLemmas.{view-bytes}
 use Rattle.file_model.specs.declared.paths.PathFormat.{PathFormat}
 use Rattle.file_model.specs.declared.paths.PathSpec.{PathSpec}
 use Rattle.file_model.specs.declared.views.ViewField.{ViewField}
@@ -24,8 +24,8 @@ use Rattle.access_path.specs.PathBytes.{ShowsBytes, members_of}
 use Rattle.access_path.specs.Rebuilding.{TakesSlot, TakesAll, member_slots}
 use Rattle.path_entrants.specs.declared.entrant.TheConstants.{MOST_FORMATS}
 use Rattle.path_entrants.specs.Formats.{IsAskable, CanBeAsked}
-use Rattle.path_set.specs.Sharing.{CanBeKept}
-use Rattle.file_cursor.specs.PositionBytes.{HasKeysWithin}
+use Rattle.physical_paths.specs.Sharing.{CanBeKept}
+use Rattle.physical_paths.specs.PositionBytes.{HasKeysWithin}
 use Rattle.physical_paths.specs.KeyedFiles.{IsRecord, IsRecordSlot, HasRecordsOf}
 use Rattle.logical_paths.specs.KeyedViews.{IsShownOf, AreRulesOver}
 use Rattle.logical_paths.proofs.ShownLemmas.{ShowsValue, shown-value, rules-compared}

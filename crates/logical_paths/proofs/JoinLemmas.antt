@@ -10,7 +10,7 @@ use lib.Pointwise.{pointwise}
 use Rattle.field_values.specs.FieldTypes.{IsFieldType, width}
 use Rattle.record_fmt.specs.declared.formats.Field.{Field}
 use Rattle.record_fmt.specs.Layout.{IsLaidOut, lies_from}
-use Rattle.key_order.specs.declared.widths.TheConstants.{MOST_POSITIONS}
+use Rattle.access_path.below.key_order.specs.declared.widths.TheConstants.{MOST_POSITIONS}
 use Rattle.file_model.specs.declared.joins.JoinPair.{JoinPair}
 use Rattle.file_model.specs.declared.views.ViewField.{ViewField}
 use Rattle.file_model.proofs.PathLemmas.{all-append}
@@ -34,7 +34,7 @@ use Rattle.dds_logical.specs.KeywordArguments.{names_among}
 use Rattle.dds_logical.specs.Keys.{field_of_name, parts_of_lines, key_lines_faults}
 use Rattle.dds_logical.specs.WholeFile.{size_faults}
 use Rattle.dds_logical.proofs.CompleteLemmas.{nothing_in, not_wrong}
-use Rattle.logical_model.specs.Bases.{Bases}
+use Rattle.logical_laws.specs.Bases.{Bases}
 use Rattle.logical_paths.specs.Steps.{shown_in_join}
 use Rattle.logical_paths.specs.KeyedViews.{IsShownOf, IsPartOver, IsSequenceOf, IsFileOver, IsKeyedJoin}
 use Rattle.logical_paths.proofs.OriginLemmas.{each-filter_map, field-there, flat-nothing, if-some, line-allowed, line-shown, own-shown}

@@ -10,7 +10,7 @@ use Rattle.field_values.specs.FirstBad.{part}
 use Rattle.record_fmt.specs.declared.formats.Field.{Field}
 use Rattle.key_spec.specs.declared.KeyPart.{KeyPart}
 use Rattle.key_spec.specs.declared.KeyPart.TheVariants.{Field as KeyField, Absent}
-use Rattle.key_order.specs.KeyFields.{HasField, HasPosition, HasKey, IsPosition, ArePositions, Matches}
+use Rattle.access_path.specs.KeyFields.{HasField, HasPosition, HasKey, IsPosition, ArePositions, Matches}
 use Rattle.file_model.specs.declared.views.ViewField.{ViewField}
 use Rattle.file_model.specs.FilePaths.{field_of_part, key_fields, key_parts}
 use Rattle.file_model.specs.Joins.{parts_from, total_width, sequence_field, sequence_part}

@@ -10,3 +10,7 @@ pub mod RuleLemmas
 pub mod JoinLemmas
 pub mod DescribedLemmas
 pub mod UniqueLemmas
+pub use Rattle.logical_laws.proofs.GivenLemmas
+pub use Rattle.logical_laws.proofs.ListLemmas
+pub use Rattle.logical_laws.proofs.MappedLemmas
+pub use Rattle.physical_paths.proofs.FieldLemmas

@@ -14,8 +14,8 @@ use Rattle.field_values.specs.FieldTypes.{IsFieldType, width}
 use Rattle.record_fmt.specs.declared.formats.Field.{Field}
 use Rattle.key_spec.specs.declared.KeyPart.{KeyPart}
 use Rattle.key_spec.specs.declared.KeyPart.TheVariants.{Field as KeyField, Absent}
-use Rattle.key_order.specs.declared.widths.TheConstants.{MOST_POSITIONS}
-use Rattle.key_order.specs.KeyFields.{MatchesAt, Matches}
+use Rattle.access_path.below.key_order.specs.declared.widths.TheConstants.{MOST_POSITIONS}
+use Rattle.access_path.specs.KeyFields.{MatchesAt, Matches}
 use Rattle.file_model.specs.declared.views.ViewField.{ViewField}
 use Rattle.file_model.specs.FilePaths.{field_from}
 use Rattle.file_model.proofs.PathLemmas.{all-append}

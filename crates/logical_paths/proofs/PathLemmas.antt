@@ -17,8 +17,8 @@ use Rattle.file_model.specs.Joins.{parts_from, total_width, sequence_part, secon
 use Rattle.dds_logical.specs.declared.join_views.JoinedFile.{JoinedFile}
 use Rattle.dds_logical.specs.declared.views.LogicalSpec.{LogicalSpec}
 use Rattle.dds_logical.specs.declared.views.LogicalSpec.TheVariants.{Simple, Multi, Join}
-use Rattle.logical_model.specs.Bases.{Bases}
-use Rattle.logical_model.specs.FilePaths.{logical_paths, secondary_of}
+use Rattle.logical_laws.specs.Bases.{Bases}
+use Rattle.logical_laws.specs.FilePaths.{logical_paths, secondary_of}
 use Rattle.logical_paths.specs.Steps.{HasType, joined_paths, own_path, parts_behind, secondary_paths}
 
 pub joined : {X : Type 0} (xs ys zs : List X) → xs ++ ys ++ zs ≡ xs ++ (ys ++ zs)

@@ -7,8 +7,8 @@ use Rattle.record_fmt.specs.declared.formats.Field.{Field}
 use Rattle.record_fmt.specs.Layout.{IsLaidOut}
 use Rattle.key_spec.specs.declared.KeyPart.{KeyPart}
 use Rattle.key_spec.specs.declared.KeyPart.TheVariants.{Field as KeyField, Absent}
-use Rattle.key_order.specs.declared.widths.TheConstants.{MOST_POSITIONS}
-use Rattle.key_order.specs.KeyFields.{ArePositions, Matches, key_width}
+use Rattle.access_path.below.key_order.specs.declared.widths.TheConstants.{MOST_POSITIONS}
+use Rattle.access_path.specs.KeyFields.{ArePositions, Matches, key_width}
 use Rattle.member_slots.specs.Members.{NumberedMembers}
 use Rattle.file_model.specs.declared.joins.JoinPair.{JoinPair}
 use Rattle.file_model.specs.declared.paths.PathFormat.{PathFormat}
@@ -21,15 +21,15 @@ use Rattle.file_model.proofs.PathLemmas.{all-append, all-map, weaker}
 use Rattle.access_path.specs.PathBytes.{IsInBytes, ShowsBytes}
 use Rattle.path_entrants.specs.declared.entrant.TheConstants.{MOST_FORMATS}
 use Rattle.path_entrants.specs.Formats.{IsAskable}
-use Rattle.path_set.specs.Sharing.{CanBeKept}
-use Rattle.path_set.specs.RecordChanges.{TakesImage}
-use Rattle.file_cursor.specs.PositionBytes.{HasKeysWithin}
+use Rattle.physical_paths.specs.Sharing.{CanBeKept}
+use Rattle.physical_paths.specs.RecordChanges.{TakesImage}
+use Rattle.physical_paths.specs.PositionBytes.{HasKeysWithin}
 use Rattle.dds_logical.specs.declared.join_views.JoinedFile.{JoinedFile}
 use Rattle.dds_logical.specs.declared.views.LogicalSpec.{LogicalSpec}
 use Rattle.dds_logical.specs.declared.views.LogicalSpec.TheVariants.{Simple, Multi, Join}
 use Rattle.dds_logical.specs.declared.views.View.{View}
-use Rattle.logical_model.specs.Bases.{Bases, base_names}
-use Rattle.logical_model.specs.FilePaths.{logical_paths, primary_path, secondary_of, view_format, views_path}
+use Rattle.logical_laws.specs.Bases.{Bases, base_names}
+use Rattle.logical_laws.specs.FilePaths.{logical_paths, primary_path, secondary_of, view_format, views_path}
 use Rattle.physical_paths.specs.KeyedFiles.{IsRecord, HasRecordsOf}
 use Rattle.logical_paths.specs.Steps.{shown_in_join, shown_of}
 use Rattle.logical_paths.specs.KeyedViews.{IsShownOf, IsPartOver, AreRulesOver, IsKeyedView, IsViewOver, IsSequenceOf, IsFileOver, IsKeyedLogical, IsRecordOfBases, HaveRecords}

@@ -11,8 +11,8 @@ use Rattle.record_fmt.specs.declared.formats.Field.{Field}
 use Rattle.record_fmt.specs.Layout.{IsLaidOut}
 use Rattle.key_spec.specs.declared.KeyPart.{KeyPart}
 use Rattle.key_spec.specs.declared.KeyPart.TheVariants.{Field as KeyField, Absent}
-use Rattle.key_order.specs.declared.widths.TheConstants.{MOST_POSITIONS}
-use Rattle.key_order.specs.KeyFields.{Matches}
+use Rattle.access_path.below.key_order.specs.declared.widths.TheConstants.{MOST_POSITIONS}
+use Rattle.access_path.specs.KeyFields.{Matches}
 use Rattle.member_slots.specs.Members.{NumberedMembers}
 use Rattle.file_model.specs.declared.rules.Condition.{Condition}
 use Rattle.file_model.specs.declared.rules.Rules.{Rules}
@@ -31,7 +31,7 @@ use Rattle.dds_logical.specs.declared.join_views.JoinView.{JoinView}
 use Rattle.dds_logical.specs.declared.views.LogicalSpec.{LogicalSpec}
 use Rattle.dds_logical.specs.declared.views.LogicalSpec.TheVariants.{Simple, Multi, Join}
 use Rattle.dds_logical.specs.declared.views.View.{View}
-use Rattle.logical_model.specs.Bases.{Bases, base_names}
+use Rattle.logical_laws.specs.Bases.{Bases, base_names}
 use Rattle.logical_laws.specs.Mapped.{IsFieldAt, IsTextAt}
 use Rattle.physical_paths.specs.KeyedFiles.{IsRecord, HasRecordsOf}
 use Rattle.logical_paths.specs.Steps.{shown_of, shown_in_join}

@@ -16,8 +16,8 @@ use Rattle.dds_logical.specs.declared.join_views.JoinedField.{JoinedField}
 use Rattle.dds_logical.specs.declared.join_views.JoinedFile.{JoinedFile}
 use Rattle.dds_logical.specs.declared.views.LogicalSpec.{LogicalSpec}
 use Rattle.dds_logical.specs.declared.views.LogicalSpec.TheVariants.{Simple, Multi, Join}
-use Rattle.logical_model.specs.Bases.{Bases}
-use Rattle.logical_model.specs.FilePaths.{primary_path, views_path}
+use Rattle.logical_laws.specs.Bases.{Bases}
+use Rattle.logical_laws.specs.FilePaths.{primary_path, views_path}
 
 -- ---- fields
 

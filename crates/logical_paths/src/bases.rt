@@ -7,7 +7,7 @@ use record_fmt::formats::Field;
 
 /// The base files of a logical file: the number of the member that it stands over, and the fields of its records.
 pub trait BaseFiles {
-    ghost use Rattle.logical_model.specs.Bases.{Bases};
+    ghost use Rattle.logical_laws.specs.Bases.{Bases};
 
     /// The base files by their names.
     ghost bases: { Self → Bases };

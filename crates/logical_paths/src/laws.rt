@@ -2,20 +2,20 @@
 ghost use Rattle.std.specs.Prelude.{◌≡◌, ◌≤◌, ℕ, Option, Some, Ok, List, map, length, All};
 ghost use Rattle.member_slots.specs.Members.{NumberedMembers};
 ghost use Rattle.record_fmt.specs.declared.formats.Field.{Field};
-ghost use Rattle.key_order.specs.declared.widths.TheConstants.{MOST_POSITIONS};
-ghost use Rattle.key_order.specs.KeyFields.{ArePositions, key_width};
+ghost use Rattle.access_path.below.key_order.specs.declared.widths.TheConstants.{MOST_POSITIONS};
+ghost use Rattle.access_path.specs.KeyFields.{ArePositions, key_width};
 ghost use Rattle.access_path.specs.PathBytes.{IsInBytes};
-ghost use Rattle.path_set.specs.Sharing.{CanBeKept};
-ghost use Rattle.path_set.specs.RecordChanges.{TakesImage};
-ghost use Rattle.file_cursor.specs.PositionBytes.{HasKeysWithin};
+ghost use Rattle.physical_paths.specs.Sharing.{CanBeKept};
+ghost use Rattle.physical_paths.specs.RecordChanges.{TakesImage};
+ghost use Rattle.physical_paths.specs.PositionBytes.{HasKeysWithin};
 ghost use Rattle.file_model.specs.FilePaths.{key_parts};
 ghost use Rattle.dds_source.specs.declared.specifications.Source.{Source};
 ghost use Rattle.dds_physical.specs.declared.physical_files.PhysicalSpec.{PhysicalSpec};
 ghost use Rattle.dds_logical.specs.declared.views.LogicalSpec.{LogicalSpec};
 ghost use Rattle.dds_logical.specs.declared.views.View.{View};
 ghost use Rattle.dds_logical.specs.Logical.{logical_of};
-ghost use Rattle.logical_model.specs.Bases.{Bases};
-ghost use Rattle.logical_model.specs.FilePaths.{logical_paths, view_format};
+ghost use Rattle.logical_laws.specs.Bases.{Bases};
+ghost use Rattle.logical_laws.specs.FilePaths.{logical_paths, view_format};
 ghost use Rattle.logical_laws.specs.Mapped.{AreBasesOf};
 ghost use Rattle.logical_paths.specs.KeyedViews.{AreLaidOut, HasKeyIfUnique, HaveFewPairs, IsKeyedView, IsKeyedLogical, IsRecordOfBases, HaveRecords};
 

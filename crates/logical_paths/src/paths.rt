@@ -1,7 +1,7 @@
 //! The access paths of a logical file.
 ghost use Rattle.std.specs.Prelude.{◌≡◌, ◌∷◌, ◌++◌, [], false, map, IfOk, OnOk};
 ghost use Rattle.file_model.specs.FilePaths.{path_format};
-ghost use Rattle.logical_model.specs.FilePaths.{logical_paths, primary_path, ties_of_views, view_format, views_path};
+ghost use Rattle.logical_laws.specs.FilePaths.{logical_paths, primary_path, ties_of_views, view_format, views_path};
 ghost use Rattle.logical_paths.specs.Steps.{joined_paths, own_path, secondary_paths};
 
 use crate::bases::BaseFiles;

@@ -5,7 +5,7 @@ ghost use Rattle.field_values.specs.FieldTypes.{IsFieldType};
 ghost use Rattle.field_values.specs.FieldBytes.{written};
 ghost use Rattle.file_model.specs.Views.{default_image};
 ghost use Rattle.view_rules.specs.Stored.{HasDefault};
-ghost use Rattle.logical_model.specs.FilePaths.{join_of, secondary_of};
+ghost use Rattle.logical_laws.specs.FilePaths.{join_of, secondary_of};
 ghost use Rattle.logical_paths.specs.Steps.{HasType, HaveDefaults, fields_of_join};
 
 use crate::bases::BaseFiles;

@@ -6,10 +6,10 @@ use Rattle.entry_codec.specs.declared.entries.Draft.{Draft}
 use Rattle.journal_model.specs.Rollback.{numbered_from}
 use Rattle.library_model.specs.declared.replies.Reply.{Reply}
 use Rattle.library_model.specs.declared.replies.Reply.TheVariants as replies
-use Rattle.library_steps.specs.State.{Memory, Receivers, empty_library, memory_of}
-use Rattle.library_steps.specs.Refusals.{◌>>=◌}
-use Rattle.library_steps.specs.JournalReads.{are_there, are_kept, entries_between}
-use Rattle.library_steps.specs.Receivers.{last_in}
+use Rattle.lawful_states.specs.State.{Memory, Receivers, empty_library, memory_of}
+use Rattle.lawful_states.specs.Refusals.{◌>>=◌}
+use Rattle.lawful_states.specs.JournalReads.{are_there, are_kept, entries_between}
+use Rattle.lawful_states.specs.Receivers.{last_in}
 use Rattle.memory_journal.specs.declared.journal.TheConstants.{LAST_NUMBER}
 use Rattle.memory_journal.specs.declared.faults.JournalFault.{JournalFault}
 use Rattle.memory_journal.specs.declared.faults.JournalFault.TheVariants.{NoSuchEntry, ReceiverGone}

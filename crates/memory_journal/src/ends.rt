@@ -1,6 +1,6 @@
 //! Where a receiver ends.
 ghost use Rattle.std.specs.Prelude.{◌≡◌};
-ghost use Rattle.library_steps.specs.Receivers.{next_receiver};
+ghost use Rattle.lawful_states.specs.Receivers.{next_receiver};
 
 use entry_codec::EntryKind;
 

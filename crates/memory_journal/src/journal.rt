@@ -1,7 +1,7 @@
 //! The journal in memory.
 ghost use Rattle.std.specs.Prelude.{◌≡◌, ◌≤◌, ◌<◌, ◌+◌, ◌^◌, [], ◌∷◌, ◌++◌, length, drop, vec_capacity, Ok, Err, OnOk, IfOk, IfErr};
-ghost use Rattle.library_steps.specs.declared.limits.TheConstants.{LAST_RECEIVER};
-ghost use Rattle.library_steps.specs.Receivers.{last_in};
+ghost use Rattle.lawful_states.below.library_steps.specs.declared.limits.TheConstants.{LAST_RECEIVER};
+ghost use Rattle.lawful_states.specs.Receivers.{last_in};
 ghost use Rattle.journal_model.specs.Journal.{AreNumbered};
 ghost use Rattle.memory_journal.specs.declared.journal.TheConstants.{LAST_NUMBER};
 ghost use Rattle.memory_journal.specs.Journal.{empty_journal, restarted_journal, last_entry, read, fault_reply, deposited, attached, given_up, dropped};
@@ -9,7 +9,7 @@ ghost use Rattle.memory_journal.specs.Journal.{empty_journal, restarted_journal,
 use crate::ends::next_receiver;
 use crate::faults::JournalFault;
 use entry_codec::{Draft, Entry};
-use library_steps::limits::LAST_RECEIVER;
+use lawful_states::library_steps::limits::LAST_RECEIVER;
 use std::alloc::{AllocError, Global};
 use std::marker::Model;
 

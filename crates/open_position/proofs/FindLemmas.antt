@@ -11,9 +11,9 @@ use Rattle.file_model.specs.declared.paths.PathSpec.{PathSpec}
 use Rattle.file_model.specs.KeyOrder.{key_of, given_key, merged_parts}
 use Rattle.file_model.specs.Paths.{path}
 use Rattle.file_model.specs.Positions.{path_reading, arrival_reading}
-use Rattle.key_order.specs.KeyBytes.{encoded, encoded_values}
-use Rattle.key_order.specs.KeyFields.{AreBytes, ArePositions, HasKey}
-use Rattle.key_order.specs.GivenValues.{IsOfBytes, key_fault}
+use Rattle.access_path.specs.KeyBytes.{encoded, encoded_values}
+use Rattle.access_path.specs.KeyFields.{AreBytes, ArePositions, HasKey}
+use Rattle.access_path.specs.GivenValues.{IsOfBytes, key_fault}
 use Rattle.key_values.specs.KeyValues.{values_in, AreAmong}
 use Rattle.file_cursor.specs.declared.places.Hit.{Hit}
 use Rattle.file_cursor.specs.declared.places.Order.{Order}

@@ -5,9 +5,9 @@ use Rattle.std.specs.Result.{result_err}
 use Rattle.field_types.specs.declared.values.Value.{Value}
 use Rattle.key_spec.specs.declared.KeyPart.{KeyPart}
 use Rattle.file_model.specs.KeyOrder.{given_key}
-use Rattle.key_order.specs.KeyBytes.{encoded_values}
-use Rattle.key_order.specs.KeyFields.{ArePositions}
-use Rattle.key_order.specs.GivenValues.{IsOfBytes, key_fault}
+use Rattle.access_path.specs.KeyBytes.{encoded_values}
+use Rattle.access_path.specs.KeyFields.{ArePositions}
+use Rattle.access_path.specs.GivenValues.{IsOfBytes, key_fault}
 use Rattle.key_values.specs.KeyValues.{values_in}
 use Rattle.open_position.specs.OpenStand.{AreGivenBytes}
 

@@ -5,3 +5,5 @@ pub mod HeldLemmas
 pub mod PathLemmas
 pub mod NumberLemmas
 pub mod FindLemmas
+pub use Rattle.key_values.proofs.AmongLemmas
+pub use Rattle.key_values.proofs.ReadLemmas

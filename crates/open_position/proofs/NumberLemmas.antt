@@ -10,7 +10,7 @@ use Rattle.member_slots.specs.Member.{MemberState, records}
 use Rattle.file_model.specs.KeyOrder.{merged_parts}
 use Rattle.file_model.specs.Paths.{PathEntry}
 use Rattle.file_model.specs.Positions as model
-use Rattle.key_order.specs.KeyBytes.{encoded}
+use Rattle.access_path.specs.KeyBytes.{encoded}
 use Rattle.file_cursor.specs.declared.places.Hit.{Hit}
 use Rattle.file_cursor.specs.CursorPosition as cursor
 use Rattle.file_cursor.specs.CursorPosition.{CursorPosition, Start, End, On, Before, Past, ByKey, ByNumber}

@@ -18,10 +18,10 @@ use Rattle.file_model.specs.Paths as paths
 use Rattle.file_model.specs.Paths.{PathEntry, compare_entries, entry_of, selected_of, path}
 use Rattle.file_model.specs.Positions as model
 use Rattle.file_model.proofs.PathLemmas.{all-map, all-append}
-use Rattle.key_order.specs.KeyBytes.{key_bytes, encoded, encoded_values}
-use Rattle.key_order.specs.KeyFields.{AreBytes, HasKey, Matches}
-use Rattle.key_order.specs.GivenValues.{IsOfBytes, key_fault}
-use Rattle.key_order.proofs.KeyLemmas.{merged-match}
+use Rattle.access_path.specs.KeyBytes.{key_bytes, encoded, encoded_values}
+use Rattle.access_path.specs.KeyFields.{AreBytes, HasKey, Matches}
+use Rattle.access_path.specs.GivenValues.{IsOfBytes, key_fault}
+use Rattle.access_path.proofs.KeyLemmas.{merged-match}
 use Rattle.access_path.specs.PathBytes.{is_falling, parts_of, in_bytes, ShowsBytes, IsInBytes}
 use Rattle.access_path.proofs.OrderedLemmas.{all-in_order}
 use Rattle.key_values.specs.KeyValues.{values_in}

@@ -4,9 +4,9 @@ use Rattle.std.specs.List.{AllByRecursion}
 use Rattle.key_spec.specs.declared.KeyPart.{KeyPart}
 use Rattle.key_pages.specs.declared.entries.Entry.{Entry}
 use Rattle.file_model.specs.KeyOrder.{merged_parts}
-use Rattle.key_order.specs.KeyBytes.{encoded, encoded_values}
-use Rattle.key_order.specs.KeyFields.{key_width}
-use Rattle.key_order.proofs.WidthLemmas.{length-encoded, length-encoded_values}
+use Rattle.access_path.specs.KeyBytes.{encoded, encoded_values}
+use Rattle.access_path.specs.KeyFields.{key_width}
+use Rattle.access_path.proofs.WidthLemmas.{length-encoded, length-encoded_values}
 use Rattle.key_values.specs.KeyValues.{AreAmong}
 use Rattle.key_values.proofs.AmongLemmas.{among-merged, among-width}
 use Rattle.file_cursor.specs.declared.places.Order.{Order}

@@ -3,8 +3,8 @@ use Rattle.std.specs.Prelude.{◌≡◌, ℕ, ◌≤◌, Bool, Option, Some, Non
 use Rattle.key_spec.specs.declared.KeyPart.{KeyPart}
 use Rattle.key_spec.specs.declared.KeyPart.TheVariants.{Absent}
 use Rattle.file_model.specs.KeyOrder.{either_part, merged_parts}
-use Rattle.key_order.specs.declared.widths.TheConstants.{MOST_POSITIONS}
-use Rattle.key_order.specs.KeyFields.{ArePositions, key_width}
+use Rattle.access_path.below.key_order.specs.declared.widths.TheConstants.{MOST_POSITIONS}
+use Rattle.access_path.specs.KeyFields.{ArePositions, key_width}
 use Rattle.file_cursor.specs.declared.places.Place.{Place}
 use Rattle.file_cursor.specs.CursorPosition.{CursorState, CursorPosition, lower_limit, greater_than}
 use Rattle.open_position.specs.declared.position.Side.{Side}

@@ -6,10 +6,10 @@ use Rattle.key_pages.specs.declared.entries.Entry.{Entry}
 use Rattle.file_model.specs.KeyOrder.{merged_parts}
 use Rattle.file_model.specs.Paths.{PathEntry}
 use Rattle.file_model.specs.Positions.{Bound, KeyBound, NumberBound, Position, Start, End, On, Before, Past}
-use Rattle.key_order.specs.declared.widths.TheConstants.{MOST_POSITIONS}
-use Rattle.key_order.specs.KeyBytes.{encoded, encoded_values}
-use Rattle.key_order.specs.KeyFields.{AreBytes, ArePositions, HasKey, Matches}
-use Rattle.key_order.specs.GivenValues.{IsOfBytes, key_fault}
+use Rattle.access_path.below.key_order.specs.declared.widths.TheConstants.{MOST_POSITIONS}
+use Rattle.access_path.specs.KeyBytes.{encoded, encoded_values}
+use Rattle.access_path.specs.KeyFields.{AreBytes, ArePositions, HasKey, Matches}
+use Rattle.access_path.specs.GivenValues.{IsOfBytes, key_fault}
 use Rattle.key_values.specs.KeyValues.{values_in}
 use Rattle.file_cursor.specs.CursorPosition as bytes
 

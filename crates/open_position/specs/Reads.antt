@@ -10,7 +10,7 @@ use Rattle.file_model.specs.KeyOrder.{given_key, merged_parts}
 use Rattle.file_model.specs.Paths.{PathEntry, path}
 use Rattle.file_model.specs.Positions.{Bound, KeyBound, NumberBound, Position, Start, End, Before, Past, Reading, next_from, prior_from, next_equal, prior_equal, chain_key, chain_number}
 use Rattle.access_path.specs.PathBytes.{is_falling, in_bytes, IsInBytes}
-use Rattle.key_order.specs.GivenValues.{key_fault}
+use Rattle.access_path.specs.GivenValues.{key_fault}
 use Rattle.key_values.specs.KeyValues.{values_in}
 use Rattle.file_cursor.specs.CursorPosition.{CursorPosition, entry_of}
 use Rattle.file_cursor.specs.Finding as bytes

@@ -2,15 +2,15 @@
 ghost use Rattle.std.specs.Prelude.{◌≡◌, ◌≤◌, List, None, [], length, vec_capacity, All, IfOk};
 ghost use Rattle.file_model.specs.KeyOrder.{given_key};
 ghost use Rattle.key_spec.specs.declared.KeyPart.{KeyPart};
-ghost use Rattle.key_order.specs.declared.widths.TheConstants.{MOST_POSITIONS};
-ghost use Rattle.key_order.specs.KeyFields.{AreBytes, ArePositions, key_width};
-ghost use Rattle.key_order.specs.GivenValues.{IsOfBytes, key_fault};
+ghost use Rattle.access_path.below.key_order.specs.declared.widths.TheConstants.{MOST_POSITIONS};
+ghost use Rattle.access_path.specs.KeyFields.{AreBytes, ArePositions, key_width};
+ghost use Rattle.access_path.specs.GivenValues.{IsOfBytes, key_fault};
 ghost use Rattle.key_values.specs.KeyValues.{values_in};
 ghost use Rattle.open_position.specs.OpenStand.{AreGivenBytes};
 
+use access_path::key_order::given::encode_values_into;
+use access_path::key_order::widths::bound;
 use field_types::values::Value;
-use key_order::given::encode_values_into;
-use key_order::widths::bound;
 use key_spec::{KeyPart, KeyParts};
 use key_values::laws::given_keys_are_read_back;
 use std::alloc::{AllocError, Global};

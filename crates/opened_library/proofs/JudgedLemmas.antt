@@ -13,8 +13,8 @@ use Rattle.library_steps.specs.declared.limits.TheConstants.{LAST_SEQUENCE}
 use Rattle.library_steps.specs.State.{State, JobState, memory_of, physical_in}
 use Rattle.library_steps.specs.SlotChange.{change_bytes}
 use Rattle.library_steps.specs.Uses.{changes_in}
-use Rattle.deposited_entries.specs.Counted.{HasBytes}
-use Rattle.deposited_entries.specs.Sequences.{sequences_due}
+use Rattle.kept_library.specs.Counted.{HasBytes}
+use Rattle.kept_library.specs.Sequences.{sequences_due}
 use Rattle.kept_library.specs.Journaled.{MayDeposit}
 
 -- members are counted from 1 where none has the number 0

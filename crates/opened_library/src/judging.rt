@@ -3,13 +3,13 @@ ghost use Rattle.std.specs.Prelude.{◌≡◌, ◌≤◌, [], true};
 ghost use Rattle.std.specs.List.{AllByRecursion};
 ghost use Rattle.library_steps.specs.declared.limits.TheConstants.{LAST_SEQUENCE};
 ghost use Rattle.library_steps.specs.State.{memory_of};
-ghost use Rattle.deposited_entries.specs.Counted.{HasBytes};
+ghost use Rattle.kept_library.specs.Counted.{HasBytes};
 ghost use Rattle.kept_library.specs.Journaled.{MayDeposit};
 
 use file_catalogue::{Catalogue, File};
-use library_parts::Contents;
 use library_steps::limits::LAST_SEQUENCE;
 use member_slots::members::Members;
+use restarted_library::library_parts::Contents;
 
 /// Whether members are counted from 1, records have bytes, and sequences are left, as in any library that was kept.
 pub(crate) fn may_deposit(contents: &Contents) -> bool

@@ -5,11 +5,13 @@ ghost use Rattle.opened_library.specs.Opened.{IsNotOpened, IsOpenedLibrary};
 
 use crate::building::build_library;
 use described_journals::DataDescriptions;
+use described_journals::restart_laws::laws::{
+    descriptions_keep_lengths, restarted_libraries_are_sound,
+};
 use field_types::names::Name;
 use journal_opening::OpenFault;
 use kept_library::KeptLibrary;
 use restart_drafts::By;
-use restart_laws::laws::{descriptions_keep_lengths, restarted_libraries_are_sound};
 use restarted_journal::restart_journal;
 use std::alloc::Global;
 use store_model::Store;

@@ -1,7 +1,7 @@
 -- The keys of formats by their numbers.
 use Rattle.std.proofs.Common.{◌≡◌, ℕ, zero, suc, ◌+◌, List, [], ◌∷◌, ap, ◌∙◌, arith}
 use Rattle.std.specs.List.{slice_get}
-use Rattle.file_model.specs.declared.paths.PathFormat.{PathFormat}
+use Rattle.view_rules.below.file_model.specs.declared.paths.PathFormat.{PathFormat}
 use Rattle.access_path.specs.KeptEntries.{KeyOf}
 use Rattle.access_path.specs.PathBytes.{AreKeysFrom}
 use Rattle.path_entrants.specs.Formats.{key_by, keys_of}

@@ -17,17 +17,17 @@ use Rattle.member_slots.specs.declared.slot.Slot.{Slot}
 use Rattle.member_slots.specs.declared.slot.Slot.TheVariants.{Live, Deleted}
 use Rattle.member_slots.specs.Member.{records_from}
 use Rattle.member_slots.specs.Members.{NumberedMembers, member_of}
-use Rattle.file_model.specs.declared.paths.PathFormat.{PathFormat}
-use Rattle.file_model.specs.declared.paths.PathSpec.{PathSpec}
-use Rattle.file_model.specs.KeyOrder.{compare_keys}
-use Rattle.file_model.specs.Selection.{selects}
-use Rattle.file_model.specs.Sorting.{put_in_order, in_order}
-use Rattle.file_model.specs.Views.{view_of}
-use Rattle.file_model.specs.Paths.{PathEntry, compare_entries, entry_of, entries_of, entries_from, selected_of, path, has_equal_key, first_repeated, repeated_in}
-use Rattle.file_model.proofs.OrderLemmas.{compare_keys-total}
-use Rattle.file_model.proofs.PathLemmas.{weaker, all-map}
-use Rattle.key_order.specs.KeyFields.{AreBytes}
-use Rattle.key_order.proofs.KeyLemmas.{AreFit, keys-cmp, image-fits, Matches-itself}
+use Rattle.view_rules.below.file_model.specs.declared.paths.PathFormat.{PathFormat}
+use Rattle.view_rules.below.file_model.specs.declared.paths.PathSpec.{PathSpec}
+use Rattle.view_rules.specs.KeyOrder.{compare_keys}
+use Rattle.view_rules.specs.Selection.{selects}
+use Rattle.view_rules.specs.Sorting.{put_in_order, in_order}
+use Rattle.view_rules.specs.Views.{view_of}
+use Rattle.view_rules.specs.Paths.{PathEntry, compare_entries, entry_of, entries_of, entries_from, selected_of, path, has_equal_key, first_repeated, repeated_in}
+use Rattle.view_rules.proofs.OrderLemmas.{compare_keys-total}
+use Rattle.view_rules.proofs.PathLemmas.{weaker, all-map}
+use Rattle.access_path.specs.KeyFields.{AreBytes}
+use Rattle.access_path.proofs.KeyLemmas.{AreFit, keys-cmp, image-fits, Matches-itself}
 use Rattle.access_path.specs.Clash.{lesser, other_number, least_other}
 use Rattle.access_path.specs.PathBytes.{in_bytes, parts_of, ShowsBytes}
 use Rattle.access_path.proofs.OrderedLemmas.{all-in_order}

@@ -2,10 +2,10 @@
 -- "Describing access paths for database files".)
 use Rattle.std.specs.Prelude.{ℕ, ◌≤◌, Option, Some, None, List, length, slice_get, IfSome}
 use Rattle.std.specs.List.{AllByRecursion}
-use Rattle.file_model.specs.declared.paths.PathFormat.{PathFormat}
-use Rattle.file_model.specs.Views.{view_of}
-use Rattle.key_order.specs.declared.widths.TheConstants.{MOST_POSITIONS}
-use Rattle.key_order.specs.KeyFields.{HasKey}
+use Rattle.view_rules.below.file_model.specs.declared.paths.PathFormat.{PathFormat}
+use Rattle.view_rules.specs.Views.{view_of}
+use Rattle.access_path.below.key_order.specs.declared.widths.TheConstants.{MOST_POSITIONS}
+use Rattle.access_path.specs.KeyFields.{HasKey}
 use Rattle.view_rules.specs.Shown.{HasShown, HasCompared}
 use Rattle.access_path.specs.KeptEntries.{KeyOf}
 use Rattle.access_path.specs.PathBytes.{format_key}

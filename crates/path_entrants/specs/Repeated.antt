@@ -3,7 +3,7 @@
 use Rattle.std.specs.Prelude.{◌≡◌, ℕ, ◌≤◌, true, Option, Some, None, List, [], ◌∷◌, length, is_some, if◌then◌else◌}
 use Rattle.key_pages.specs.declared.entries.Entry.{Entry}
 use Rattle.member_slots.specs.Members.{NumberedMembers}
-use Rattle.file_model.specs.declared.paths.PathSpec.{PathSpec}
+use Rattle.view_rules.below.file_model.specs.declared.paths.PathSpec.{PathSpec}
 use Rattle.access_path.specs.Clash.{lesser, least_other}
 use Rattle.access_path.specs.PathBytes.{IsInBytes}
 

@@ -4,11 +4,11 @@ ghost use Rattle.access_path.specs.PathBytes.{format_key, members_of};
 ghost use Rattle.path_entrants.specs.Formats.{IsAskable, CanBeAsked, keys_of};
 
 use access_path::entrant::Entrant;
-use file_model::paths::{PathFormat, PathSpec};
-use key_order::encoding::encode;
+use access_path::key_order::encoding::encode;
 use key_pages::Key;
 use std::alloc::{AllocError, Global};
 use std::marker::Model;
+use view_rules::file_model::paths::{PathFormat, PathSpec};
 use view_rules::selection::selects;
 use view_rules::viewing::view;
 
@@ -24,7 +24,7 @@ pub struct SpecEntrant {
 
 impl Model for SpecEntrant {
     ghost use Rattle.std.specs.Prelude.{◌≤◌, length};
-    ghost use Rattle.file_model.specs.declared.paths.PathSpec.{PathSpec};
+    ghost use Rattle.view_rules.below.file_model.specs.declared.paths.PathSpec.{PathSpec};
     ghost use Rattle.path_entrants.specs.declared.entrant.TheConstants.{MOST_FORMATS};
 
     ghost Value = { PathSpec };

@@ -1,8 +1,8 @@
 //! Laws of the keys of a path, as contracts of functions that do nothing.
 ghost use Rattle.std.specs.Prelude.{◌≡◌, List, map, None, if◌then◌else◌};
-ghost use Rattle.file_model.specs.declared.paths.PathFormat.{PathFormat};
-ghost use Rattle.file_model.specs.declared.paths.PathSpec.{PathSpec};
-ghost use Rattle.file_model.specs.Paths.{path, repeated_in};
+ghost use Rattle.view_rules.below.file_model.specs.declared.paths.PathFormat.{PathFormat};
+ghost use Rattle.view_rules.below.file_model.specs.declared.paths.PathSpec.{PathSpec};
+ghost use Rattle.view_rules.specs.Paths.{path, repeated_in};
 ghost use Rattle.member_slots.specs.Members.{NumberedMembers};
 ghost use Rattle.access_path.specs.PathBytes.{AreKeysFrom, in_bytes};
 ghost use Rattle.path_entrants.specs.Formats.{keys_of};

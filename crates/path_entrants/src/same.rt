@@ -2,10 +2,10 @@
 ghost use Rattle.std.specs.Prelude.{◌≡◌, ◌↔◌, IsTrue};
 
 use field_types::values::Value;
-use file_model::paths::{PathFormat, PathSpec};
-use file_model::rules::{Condition, Rules, Statement, Test};
-use file_model::views::{FieldSource, Piece, ViewField};
 use key_spec::KeyPart;
+use view_rules::file_model::paths::{PathFormat, PathSpec};
+use view_rules::file_model::rules::{Condition, Rules, Statement, Test};
+use view_rules::file_model::views::{FieldSource, Piece, ViewField};
 
 /// Whether they are equal. It takes no memory.
 pub fn is_same(a: &PathSpec, b: &PathSpec) -> bool

@@ -16,9 +16,9 @@ use Rattle.file_model.specs.Selection.{selects}
 use Rattle.file_model.specs.Sorting.{put_in_order, in_order}
 use Rattle.file_model.specs.Views.{view_of}
 use Rattle.file_model.specs.Paths.{PathEntry, compare_entries, path_key, entries_of, entries_from, has_equal_key, other_with_key, clash}
-use Rattle.key_order.specs.KeyBytes.{key_bytes}
-use Rattle.key_order.specs.KeyFields.{AreBytes}
-use Rattle.key_order.proofs.KeyLemmas.{AreFit, keys-cmp, image-fits, Matches-itself}
+use Rattle.access_path.specs.KeyBytes.{key_bytes}
+use Rattle.access_path.specs.KeyFields.{AreBytes}
+use Rattle.access_path.proofs.KeyLemmas.{AreFit, keys-cmp, image-fits, Matches-itself}
 use Rattle.access_path.specs.Clash.{lesser, least_other}
 use Rattle.access_path.specs.PathBytes.{in_bytes, parts_of, ShowsBytes, IsInBytes}
 use Rattle.access_path.proofs.OrderedLemmas.{all-in_order}

@@ -8,3 +8,5 @@ pub mod RebuiltPaths
 pub mod ManyChanges
 pub mod EqualKeys
 pub mod ByMember
+pub use Rattle.path_entrants.specs.Formats
+pub use Rattle.path_entrants.specs.Repeated

@@ -4,7 +4,7 @@ ghost use Rattle.member_slots.specs.Members.{NumberedMembers};
 ghost use Rattle.file_model.specs.declared.paths.PathFormat.{PathFormat};
 ghost use Rattle.file_model.specs.Paths.{clash, repeated_in};
 ghost use Rattle.file_model.specs.Views.{view_of};
-ghost use Rattle.key_order.specs.KeyFields.{AreBytes};
+ghost use Rattle.access_path.specs.KeyFields.{AreBytes};
 ghost use Rattle.access_path.specs.PathBytes.{IsInBytes};
 ghost use Rattle.path_entrants.specs.Repeated.{TellsRepeated};
 ghost use Rattle.path_set.specs.KeptPaths.{KeptPath, entries_of};

@@ -15,3 +15,5 @@ pub mod over;
 pub mod rebuilding;
 pub mod repeated;
 pub mod set;
+
+pub use path_entrants;

@@ -14,9 +14,9 @@ use Rattle.key_spec.specs.declared.KeyPart.{KeyPart}
 use Rattle.key_spec.specs.declared.KeyPart.TheVariants.{Field as KeyField, Absent}
 use Rattle.file_model.specs.FilePaths.{physical_path, key_parts}
 use Rattle.file_model.specs.KeyOrder.{KeyValue, Missing, ordered, given_key}
-use Rattle.key_order.specs.declared.widths.TheConstants.{MOST_POSITIONS}
-use Rattle.key_order.specs.KeyFields.{IsPosition, ArePositions}
-use Rattle.key_order.specs.GivenValues.{part_fault, fault_before, value_fault, key_fault}
+use Rattle.access_path.below.key_order.specs.declared.widths.TheConstants.{MOST_POSITIONS}
+use Rattle.access_path.specs.KeyFields.{IsPosition, ArePositions}
+use Rattle.access_path.specs.GivenValues.{part_fault, fault_before, value_fault, key_fault}
 use Rattle.dds_physical.specs.declared.physical_files.PhysicalSpec.{PhysicalSpec}
 use Rattle.physical_paths.specs.KeyedFiles.{IsKeyed}
 use Rattle.physical_paths.proofs.FieldLemmas.{IsPartOf, parts-of, lies-in}

@@ -26,12 +26,12 @@ use Rattle.file_model.specs.Paths.{selected_of}
 use Rattle.file_model.specs.Selection.{selects}
 use Rattle.file_model.specs.Views.{view_of}
 use Rattle.file_model.proofs.PathLemmas.{weaker, all-filter}
-use Rattle.key_order.specs.KeyFields.{AreBytes, HasField, HasPosition, HasKey, key_width, Matches}
-use Rattle.key_order.proofs.ViewLemmas.{view-bytes}
+use Rattle.access_path.specs.KeyFields.{AreBytes, HasField, HasPosition, HasKey, key_width, Matches}
+use Rattle.access_path.proofs.ViewLemmas.{view-bytes}
 use Rattle.view_rules.specs.Shown.{HasShown}
 use Rattle.access_path.specs.PathBytes.{ShowsBytes, IsInBytes}
 use Rattle.access_path.specs.Rebuilding.{TakesSlot}
-use Rattle.path_entrants.specs.Formats.{IsAskable, CanBeAsked}
+use Rattle.path_set.specs.Formats.{IsAskable, CanBeAsked}
 use Rattle.path_set.specs.Sharing.{CanBeKept}
 use Rattle.path_set.specs.RecordChanges.{TakesImage}
 use Rattle.file_cursor.specs.PositionBytes.{HasKeysWithin}

@@ -14,7 +14,7 @@ use Rattle.record_fmt.specs.declared.formats.Format.{Format}
 use Rattle.record_fmt.specs.Layout.{record_length, lies_from}
 use Rattle.key_spec.specs.declared.KeyPart.{KeyPart}
 use Rattle.key_spec.specs.declared.KeyPart.TheVariants.{Field as KeyField, Absent}
-use Rattle.key_order.specs.declared.widths.TheConstants.{MOST_POSITIONS}
+use Rattle.access_path.below.key_order.specs.declared.widths.TheConstants.{MOST_POSITIONS}
 use Rattle.file_model.proofs.PathLemmas.{weaker, all-append}
 use Rattle.dds_source.specs.declared.faults.DdsFault.{DdsFault}
 use Rattle.dds_source.specs.declared.faults.DdsCause.TheVariants.{Conflict}

@@ -21,8 +21,8 @@ use Rattle.library_model.specs.declared.replies.Reply.TheVariants as replies
 use Rattle.library_steps.specs.State.{State, FileState, MemberStatus, memory_of, fields_of}
 use Rattle.library_steps.specs.Change.{Change}
 use Rattle.library_steps.specs.Ranges.{RangeWork, slots_now, with_range}
-use Rattle.lawful_states.specs.Lawful.{IsLibrary}
-use Rattle.lawful_states.proofs.MemberLemmas.{IsThere-is_some, at-member_of, item_at-with_item_other, member_of-with}
+use Rattle.joint_state.specs.Lawful.{IsLibrary}
+use Rattle.joint_state.proofs.MemberLemmas.{IsThere-is_some, at-member_of, item_at-with_item_other, member_of-with}
 use Rattle.joint_state.specs.Sound.{IsSound, after}
 use Rattle.range_histories.specs.Ranges.{GoesBack, GoesForward, AppliesAgain, IsAgain, IsDone, Moves, again, member_named, slot_now, to_before, to_end}
 use Rattle.range_histories.proofs.ResultLemmas.{ok-same}

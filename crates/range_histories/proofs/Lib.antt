@@ -4,3 +4,4 @@ pub mod NamedLemmas
 pub mod WorkLemmas
 pub mod HistoryLemmas
 pub mod StopLemmas
+pub use Rattle.joint_state.proofs.OpenLemmas

@@ -9,8 +9,8 @@ use Rattle.library_model.specs.Named.{Named, named, same_name}
 use Rattle.library_model.specs.declared.requests.JournaledChanges.{JournaledChanges}
 use Rattle.library_model.specs.declared.requests.RangeEnd.{RangeEnd}
 use Rattle.library_model.specs.declared.replies.Reply.TheVariants as replies
-use Rattle.lawful_states.specs.Owners.{has_number}
-use Rattle.lawful_states.proofs.StatusLemmas.{has_number-cons}
+use Rattle.joint_state.specs.Owners.{has_number}
+use Rattle.joint_state.proofs.StatusLemmas.{has_number-cons}
 use Rattle.library_steps.specs.State.{State, Memory, FileState, MemberStatus, memory_of}
 use Rattle.library_steps.specs.JournalReads.{are_there, are_kept, is_no_range, first_kept}
 use Rattle.library_steps.specs.Refusals.{FoundMember, member_of_file, refuse_if, sequences_left}

@@ -6,7 +6,7 @@ use Rattle.library_steps.specs.State.{Memory, physical_named}
 use Rattle.library_steps.specs.Change.{Change, does}
 use Rattle.library_steps.specs.Refusals.{◌>>=◌, found, refuse_if, refuse_with, named_or_refused, FoundMember, member_of_file}
 use Rattle.library_steps.specs.Uses.{unused}
-use Rattle.lawful_states.proofs.BaseLemmas.{physical-found}
+use Rattle.joint_state.proofs.BaseLemmas.{physical-found}
 
 pub bind-ok : {A B : Type 0} (r : Result A Reply) (next : A → Result B Reply) (y : B) → (r >>= next) ≡ Ok y → (x : A) × (r ≡ Ok x) × (next x ≡ Ok y)
 bind-ok (Ok x) next y h = (x, refl, h)

@@ -9,9 +9,9 @@ ghost use Rattle.library_parts.specs.Answers.{Allows};
 ghost use Rattle.range_requests.specs.Plans.{Finds, IsKept};
 
 use crate::ends::ends_named;
-use file_catalogue::File;
 use library_model::replies::Reply;
 use library_model::requests::{JournaledChanges, RangeEnd};
+use library_parts::file_catalogue::File;
 use library_parts::{Contents, MemberFound, Stop, may_deposit};
 
 /// The range of a member's journal between two sequences, and the file that has the member.

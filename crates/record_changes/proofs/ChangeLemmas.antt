@@ -11,8 +11,8 @@ use Rattle.journal_model.specs.Rollback.{MemberChange, numbered_from}
 use Rattle.path_set.specs.declared.moves.PathMove.{PathMove}
 use Rattle.path_set.specs.RecordChanges.{moves_in}
 use Rattle.path_set.specs.MemberSteps.{slot_replaced}
-use Rattle.job_table.specs.Changes.{KeptUndo}
-use Rattle.job_table.specs.Table.{JobTable, HasRoomFor}
+use Rattle.library_parts.specs.Changes.{KeptUndo}
+use Rattle.library_parts.specs.Table.{JobTable, HasRoomFor}
 use Rattle.library_model.specs.declared.replies.Reply.{Reply}
 use Rattle.library_steps.specs.declared.limits.TheConstants.{MOST_GROUP_CHANGES, MOST_GROUP_BYTES}
 use Rattle.library_steps.specs.State.{Memory, State, CycleState, JobState, fields_of, job_at, job_changed, job_of, memory_of, with_status}

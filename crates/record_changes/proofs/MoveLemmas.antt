@@ -11,7 +11,7 @@ use Rattle.path_set.specs.declared.moves.PathMove.{PathMove}
 use Rattle.path_set.specs.KeptPaths.{KeptPaths}
 use Rattle.path_set.specs.RecordChanges.{moves_in, HaveRoom}
 use Rattle.path_set.specs.MemberSteps.{slot_replaced}
-use Rattle.job_table.specs.Table.{changes_held}
+use Rattle.library_parts.specs.Table.{changes_held}
 use Rattle.library_steps.specs.Records.{slot_there}
 use Rattle.library_steps.specs.State.{memory_of}
 use Rattle.library_parts.specs.Moved.{AreMovesOf, HasMovesRoom}

@@ -11,7 +11,7 @@ use Rattle.dds_logical.specs.declared.views.LogicalSpec.TheVariants.{Simple, Mul
 use Rattle.logical_model.specs.Bases.{FileSpec, PhysicalFile, LogicalFile}
 use Rattle.logical_laws.specs.Found.{HoldsRecord}
 use Rattle.logical_laws.specs.Mapped.{HoldDefaults}
-use Rattle.logical_paths.specs.KeyedViews.{IsKeyedView, IsViewOver}
+use Rattle.view_records.specs.KeyedViews.{IsKeyedView, IsViewOver}
 use Rattle.lawful_states.specs.Owners.{AreApart, has_number}
 use Rattle.lawful_states.specs.Physical.{IsPhysical}
 use Rattle.lawful_states.proofs.NameLemmas.{some-equal}

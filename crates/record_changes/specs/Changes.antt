@@ -6,7 +6,7 @@ use Rattle.library_steps.specs.declared.limits.TheConstants.{MOST_GROUP_CHANGES,
 use Rattle.library_steps.specs.State.{Memory, State, memory_of, job_of, with_job}
 use Rattle.member_slots.specs.declared.slot.Slot.{Slot}
 use Rattle.path_set.specs.declared.moves.PathMove.{PathMove}
-use Rattle.job_table.specs.Changes.{KeptUndo, change_of}
+use Rattle.library_parts.specs.Changes.{KeptUndo, change_of}
 use Rattle.library_steps.specs.Change.{deposited}
 use Rattle.library_steps.specs.Drafts.{Author, author_of, cycle_draft, slot_drafts}
 use Rattle.library_steps.specs.SlotChange.{NewSlot, images_of, drafts_of, slot_changed, cycle_for, noted, with_cycle, open_changes, open_bytes, change_bytes}

@@ -5,7 +5,7 @@ use Rattle.member_slots.specs.Member.{FitsSlot, is_full, is_live}
 use Rattle.member_slots.specs.Members.{NumberedMembers, member_at, member_of}
 use Rattle.lawful_states.specs.Owners.{Owns}
 use Rattle.path_set.specs.declared.moves.PathMove.{PathMove}
-use Rattle.job_table.specs.Changes.{KeptUndo}
+use Rattle.library_parts.specs.Changes.{KeptUndo}
 use Rattle.library_model.specs.Named.{Named}
 use Rattle.library_steps.specs.declared.limits.TheConstants.{LAST_SEQUENCE, MOST_LIBRARY_BYTES}
 use Rattle.library_steps.specs.State.{Memory, State, FileState, JobState, fields_of, job_of, memory_of}

@@ -19,7 +19,7 @@ use crate::cycles::{cycle_begun, cycle_of};
 use crate::entries::ChangeEntries;
 use crate::planned::{PlannedSlot, Prepared, UndoSlots};
 use entry_codec::Images;
-use job_table::Undo;
+use library_parts::job_table::Undo;
 use library_parts::{Author, Contents, SlotTaken};
 use member_slots::slot::Slot;
 use path_set::moves::Moves;

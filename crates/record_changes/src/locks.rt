@@ -9,8 +9,8 @@ ghost use Rattle.lawful_states.specs.Calls.{IsOfOpen};
 ghost use Rattle.record_changes.specs.Locks.{IsOfCurrent, MayLock};
 
 use crate::planned::Through;
-use job_table::OpenAt;
 use library_parts::Contents;
+use library_parts::job_table::OpenAt;
 use library_parts::laws::locks_fit;
 use lock_table::{Call, Level};
 use std::alloc::AllocError;

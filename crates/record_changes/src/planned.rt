@@ -3,7 +3,7 @@ ghost use Rattle.std.specs.Prelude.{◌≡◌};
 ghost use Rattle.library_steps.specs.Locking.{holder_of, record_of};
 ghost use Rattle.record_changes.specs.Opens.{bare};
 
-use job_table::OpenAt;
+use library_parts::job_table::OpenAt;
 use lock_table::{Holder, RecordId};
 use member_slots::slot::Slot;
 use path_set::moves::Moves;

@@ -6,3 +6,4 @@ pub mod packing;
 pub mod records;
 
 pub use field_types::faults::RecordFault;
+pub use field_values;

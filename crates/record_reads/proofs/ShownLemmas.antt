@@ -15,8 +15,8 @@ use Rattle.physical_paths.specs.KeyedFiles.{IsRecord}
 use Rattle.dds_logical.specs.declared.views.LogicalSpec.TheVariants.{Simple, Multi, Join}
 use Rattle.logical_model.specs.Bases.{FileSpec, PhysicalFile, LogicalFile}
 use Rattle.logical_model.specs.Formats.{shown_in}
-use Rattle.logical_paths.specs.KeyedViews.{IsKeyedView, IsShownOf, IsViewOver}
-use Rattle.logical_paths.specs.Steps.{shown_of}
+use Rattle.view_records.specs.KeyedViews.{IsKeyedView, IsShownOf, IsViewOver}
+use Rattle.view_records.specs.Steps.{shown_of}
 use Rattle.view_records.specs.Through.{IsFormatOf}
 use Rattle.library_model.specs.Named.{named}
 use Rattle.library_model.specs.declared.replies.RecordRead.{RecordRead}

@@ -10,7 +10,7 @@ use Rattle.dds_logical.specs.declared.views.LogicalSpec.TheVariants.{Simple, Mul
 use Rattle.logical_model.specs.Bases.{Bases, FileSpec, PhysicalFile, LogicalFile}
 use Rattle.logical_model.specs.Readings.{join_in, has_numbers}
 use Rattle.dds_logical.specs.declared.views.LogicalSpec.{LogicalSpec}
-use Rattle.file_catalogue.specs.Bodies.{logical_in}
+use Rattle.library_parts.specs.Bodies.{logical_in}
 use Rattle.library_model.specs.declared.requests.Limit.TheVariants as limits
 use Rattle.library_model.specs.declared.replies.Reply.{Reply}
 use Rattle.library_model.specs.declared.replies.Reply.TheVariants.{WrongOpen}

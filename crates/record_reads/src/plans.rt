@@ -5,8 +5,8 @@ ghost use Rattle.library_steps.specs.History.{is_running};
 ghost use Rattle.record_reads.specs.Plans.{used_of, holder_through, record_through};
 
 use crate::asked::AskedBy;
-use job_table::OpenAt;
 use library_model::replies::RecordRead;
+use library_parts::job_table::OpenAt;
 use library_parts::{Contents, RowFound};
 use lock_table::{Call, Holder, Level, RecordId};
 

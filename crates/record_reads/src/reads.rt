@@ -25,12 +25,12 @@ use crate::shown::{joined, shown_found};
 use dds_logical::join_views::JoinView;
 use field_types::names::Name;
 use field_types::values::Value;
-use file_catalogue::File;
-use job_table::{Open, OpenAt};
 use library_model::replies::Reply;
 use library_model::requests::{
     ChainRecord, ChainTo, Limit, LockOption, OpenOption, ReadEqual, ReadRecord,
 };
+use library_parts::file_catalogue::File;
+use library_parts::job_table::{Open, OpenAt};
 use library_parts::laws::{effects_answer, locks_fit};
 use library_parts::{Contents, OpenFound, RowFound, Stop};
 use lock_table::Call;

@@ -42,8 +42,8 @@ use Rattle.lawful_states.proofs.BaseLemmas.{physical-found}
 use Rattle.lawful_states.proofs.FileLemmas.{next-unowned}
 use Rattle.lawful_states.proofs.FindLemmas.{found-is}
 use Rattle.joint_state.specs.Sound.{IsSound, after}
-use Rattle.library_kept.proofs.ResultLemmas.{bind-ok, does-each, not-refused, ok-equal}
-use Rattle.cycles_kept.proofs.ImageLemmas.{among-map, status_in-push}
+use Rattle.restart_laws.proofs.ResultLemmas.{bind-ok, does-each, not-refused, ok-equal}
+use Rattle.sound_histories.proofs.ImageLemmas.{among-map, status_in-push}
 use Rattle.restart_model.specs.Sources.{fields_beside}
 use Rattle.replayed_histories.specs.Shown.{ShownFile, ShownMember, ShowsMembers, file_shown, held_shown, is_held_in, kind_in, memberless, status_shown}
 use Rattle.replayed_histories.specs.Replayed.{IsHeldWithin, IsReplayed, MemberStands, StandsAs}

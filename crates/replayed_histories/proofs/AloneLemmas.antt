@@ -13,8 +13,8 @@ use Rattle.library_steps.specs.State.{CycleState, JobState, State, job_of, memor
 use Rattle.library_steps.specs.SlotChange.{NewSlot, cycle_number}
 use Rattle.library_steps.specs.Uses as jobs_uses
 use Rattle.joint_state.specs.Sound.{IsSound}
-use Rattle.cycles_kept.proofs.JobLemmas.{IsAsking}
-use Rattle.cycles_kept.proofs.PutLemmas.{IsNotOf, MayPut}
+use Rattle.sound_histories.proofs.JobLemmas.{IsAsking}
+use Rattle.sound_histories.proofs.PutLemmas.{IsNotOf, MayPut}
 use Rattle.replayed_histories.specs.Shown.{cycle_numbers, with_number}
 use Rattle.replayed_histories.specs.Replayed.{CyclesStand, HasItsChanges, IsOfOneOf, changes_in}
 

@@ -38,7 +38,7 @@ use Rattle.journal_replay.specs.Standing.{HeldMember, Standing, catalogue_in, me
 use Rattle.lawful_states.specs.Owners.{Owns}
 use Rattle.library_model.specs.Named.{Named}
 use Rattle.library_model.specs.declared.replies.Reply.TheVariants.{Done, NoDefinition}
-use Rattle.library_kept.proofs.ResultLemmas.{does-each}
+use Rattle.restart_laws.proofs.ResultLemmas.{does-each}
 use Rattle.lawful_states.specs.Back.{member_back, members_back}
 use Rattle.lawful_states.specs.Lawful.{CycleGoesBack, FitsPlace, GoesBack}
 use Rattle.lawful_states.proofs.BoundaryLemmas.{cycle_back-is, cycle-places, places-back}

@@ -26,8 +26,8 @@ use Rattle.journal_replay.specs.Standing.{HeldMember, Standing, catalog_member, 
 use Rattle.library_model.specs.Named.{Named, named}
 use Rattle.library_model.specs.declared.replies.Reply.TheVariants.{Done}
 use Rattle.library_model.specs.declared.requests.StartJournaling.{StartJournaling}
-use Rattle.library_kept.proofs.RequestLemmas.{start-free}
-use Rattle.library_kept.proofs.ResultLemmas.{does-each}
+use Rattle.restart_laws.proofs.RequestLemmas.{start-free}
+use Rattle.restart_laws.proofs.ResultLemmas.{does-each}
 use Rattle.lawful_states.specs.Lawful.{HoldsValues}
 use Rattle.lawful_states.proofs.MemberLemmas.{HasRecords-member_of, IsThere-is_some, item_at-with_item_same, member_of-with}
 use Rattle.library_steps.specs.State.{FileState, MemberStatus, State, fields_of, memory_of, with_status}

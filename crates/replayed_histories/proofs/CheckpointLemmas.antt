@@ -9,7 +9,7 @@ use Rattle.library_model.specs.declared.replies.Reply.TheVariants.{NoDefinition}
 use Rattle.library_model.specs.declared.requests.Request.{Request}
 use Rattle.library_model.specs.declared.requests.Request.TheVariants.{CreatePhysicalFile, CreateLogicalFile, DeleteFile, AddMember, ClearMember, ReorganizeMember, StartJournaling, EndJournaling, ChangeJournal, DeleteReceiver, Checkpoint, DisplayJournal, ApplyChanges, RemoveChanges, StartCommitment, EndCommitment, Commit, Rollback, OpenFile, CloseFile, SetLowerLimit, SetGreaterThan, Read, ReadPrior, ReadEqual, ReadPriorEqual, Chain, Write, Update, Delete, Unlock, EndJob}
 use Rattle.library_model.specs.declared.sources.NamedSource.{NamedSource}
-use Rattle.library_kept.proofs.ResultLemmas.{does-each}
+use Rattle.restart_laws.proofs.ResultLemmas.{does-each}
 use Rattle.library_steps.specs.Change.{Change, does}
 use Rattle.library_steps.specs.ChangeRecord.{unlock_change, update_change}
 use Rattle.library_steps.specs.ChangeRecord as records

@@ -28,9 +28,9 @@ use Rattle.library_steps.specs.Journaling.{end_change, end_journaling, end_plan}
 use Rattle.library_steps.specs.MemberCommands.{clear_member, empty_plan, if_journaled, renumbered, renumbering, reorganize_member, with_slots}
 use Rattle.journaled_entries.specs.Deposited.{is_of_record}
 use Rattle.joint_state.specs.Sound.{IsSound, after}
-use Rattle.library_kept.proofs.CatalogueLemmas.{cleared-stands, reorganized-stands}
-use Rattle.library_kept.proofs.ResultLemmas.{does-each}
-use Rattle.library_kept.proofs.StandLemmas.{Stands, Stands-memory_of}
+use Rattle.restart_laws.proofs.LibraryKeptCatalogueLemmas.{cleared-stands, reorganized-stands}
+use Rattle.restart_laws.proofs.ResultLemmas.{does-each}
+use Rattle.restart_laws.proofs.LibraryKeptStandLemmas.{Stands, Stands-memory_of}
 use Rattle.restart_model.specs.Sources.{descriptions}
 use Rattle.replayed_histories.specs.Replayed.{CyclesStand, IsHeldWithin, IsReplayed, MemberStands, StandsAs}
 use Rattle.replayed_histories.specs.Deposits.{MayBeDeposited}

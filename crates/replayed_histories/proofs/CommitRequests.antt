@@ -19,7 +19,7 @@ use Rattle.library_steps.specs.Refusals.{found}
 use Rattle.library_steps.specs.Drafts.{Author, author_of, cycle_draft}
 use Rattle.library_steps.specs.Commitment.{commit, commit_change, committed, committed_open, end_drafts, without_cycle}
 use Rattle.joint_state.specs.Sound.{after}
-use Rattle.library_kept.proofs.ResultLemmas.{does-each}
+use Rattle.restart_laws.proofs.ResultLemmas.{does-each}
 use Rattle.replayed_histories.specs.Replayed.{BeganBefore, IsHeldWithin, IsReplayed}
 use Rattle.replayed_histories.specs.Deposits.{MayBeDeposited}
 use Rattle.replayed_histories.proofs.CycleLemmas.{holds-one, is-one, none-ends, one-ends, without}

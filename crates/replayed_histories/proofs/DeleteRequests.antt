@@ -33,9 +33,9 @@ use Rattle.library_steps.specs.Uses.{first_job, user_of, uses}
 use Rattle.lawful_states.specs.Lawful.{IsBased}
 use Rattle.lawful_states.proofs.MemberLemmas.{item_at-without_item_other}
 use Rattle.joint_state.specs.Sound.{IsSound, after}
-use Rattle.library_kept.proofs.RequestLemmas.{delete-file}
-use Rattle.library_kept.proofs.ResultLemmas.{does-each}
-use Rattle.cycles_kept.proofs.ImageLemmas.{among-without}
+use Rattle.restart_laws.proofs.RequestLemmas.{delete-file}
+use Rattle.restart_laws.proofs.ResultLemmas.{does-each}
+use Rattle.sound_histories.proofs.ImageLemmas.{among-without}
 use Rattle.restart_model.specs.Sources.{described_files, descriptions, fields_beside, spec_named}
 use Rattle.restart_laws.proofs.CatalogueLemmas.{AreNamesApart, IsCatalogue, empty-is, entries-are}
 use Rattle.restart_laws.proofs.StableLemmas.{ArePlain, IsPlain, all-free, plain-less, spec-less}

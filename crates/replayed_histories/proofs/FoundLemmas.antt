@@ -21,8 +21,8 @@ use Rattle.library_steps.specs.Journaling.{end_plan}
 use Rattle.lawful_states.specs.Members.{HasMember}
 use Rattle.lawful_states.proofs.MemberLemmas.{IsThere-is_some}
 use Rattle.joint_state.specs.Sound.{IsSound}
-use Rattle.library_kept.proofs.PlanLemmas.{member-is, named-member}
-use Rattle.library_kept.proofs.ResultLemmas.{bind-ok, none-refused, not-refused, ok-equal}
+use Rattle.restart_laws.proofs.PlanLemmas.{member-is, named-member}
+use Rattle.restart_laws.proofs.ResultLemmas.{bind-ok, none-refused, not-refused, ok-equal}
 
 -- ---- the status that two names find is the one that the number finds
 

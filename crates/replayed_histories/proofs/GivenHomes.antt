@@ -13,7 +13,7 @@ use Rattle.lawful_states.specs.Owners.{Owns, has_number}
 use Rattle.journal_model.specs.Catalogue.{CatalogFile, is_named}
 use Rattle.journal_replay.specs.Standing.{HeldMember}
 use Rattle.library_model.specs.Named.{Named, named, same_name}
-use Rattle.library_kept.proofs.PlanLemmas.{named-each}
+use Rattle.restart_laws.proofs.PlanLemmas.{named-each}
 use Rattle.lawful_states.specs.Lawful.{HoldsValues, IsBased, IsLibrary}
 use Rattle.lawful_states.proofs.MemberLemmas.{HasRecords-member_of}
 use Rattle.library_steps.specs.State.{FileState, MemberStatus, State, fields_of}

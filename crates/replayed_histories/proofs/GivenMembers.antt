@@ -26,7 +26,7 @@ use Rattle.journal_model.specs.Rollback.{MemberChange}
 use Rattle.journal_replay.specs.Left.{is_held}
 use Rattle.journal_replay.specs.Standing.{HeldMember, Standing, catalog_member, catalogue_in, images_by, member_by, slots_at}
 use Rattle.library_model.specs.Named.{Named, named}
-use Rattle.library_kept.proofs.FieldLemmas.{FitsSlot-held, length-record}
+use Rattle.restart_laws.proofs.FieldLemmas.{FitsSlot-held, length-record}
 use Rattle.lawful_states.specs.Lawful.{HoldsValues}
 use Rattle.lawful_states.proofs.MemberLemmas.{member_of-with}
 use Rattle.library_steps.specs.State.{FileState, JobState, MemberStatus, fields_of}

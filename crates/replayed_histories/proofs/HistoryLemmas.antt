@@ -9,7 +9,7 @@ use Rattle.library_steps.specs.Change.{Change, changed}
 use Rattle.library_steps.specs.History.{Comes, Failed, Outcome, Runs, Standing, is_running}
 use Rattle.library_steps.specs.State.{State, begun, empty_library, job_at, memory_of}
 use Rattle.library_steps.specs.Step.{change}
-use Rattle.library_kept.proofs.EmptyLemmas.{begun-sound}
+use Rattle.restart_laws.proofs.EmptyLemmas.{begun-sound}
 use Rattle.joint_state.specs.Sound.{Does, IsKept, IsSound, after}
 use Rattle.replayed_histories.specs.Replayed.{IsReplayed}
 use Rattle.replayed_histories.specs.Unsaved.{AreHistoriesReplayed, saves}

@@ -29,9 +29,9 @@ use Rattle.lawful_states.specs.Lawful.{AreBased, HasRecords, HoldsValues, IsBase
 use Rattle.lawful_states.proofs.MemberLemmas.{HasRecords-member_of}
 use Rattle.library_steps.specs.State.{FileState, JobState, MemberStatus, fields_of}
 use Rattle.joint_state.specs.Limits.{AreWithin, IsWithin}
-use Rattle.library_kept.proofs.FieldLemmas.{FitsSlot-held}
-use Rattle.library_kept.proofs.PlanLemmas.{named-each}
-use Rattle.library_kept.proofs.StandLemmas.{within-of}
+use Rattle.restart_laws.proofs.FieldLemmas.{FitsSlot-held}
+use Rattle.restart_laws.proofs.PlanLemmas.{named-each}
+use Rattle.restart_laws.proofs.LibraryKeptStandLemmas.{within-of}
 use Rattle.restart_model.specs.Sources.{descriptions, fields_beside}
 use Rattle.replayed_histories.specs.Shown.{ShownFile, ShownMember, ShowsMembers, catalog_shown, file_shown, held_shown, is_held_in, kind_in, status_shown}
 use Rattle.replayed_histories.specs.Replayed.{IsHeldWithin, MemberStands, StandsAs}

@@ -26,7 +26,7 @@ use Rattle.library_steps.specs.Receivers.{attached, attach_change, attach_plan, 
 use Rattle.library_steps.specs.Checkpoint.{save, save_change, save_plan}
 use Rattle.library_steps.specs.JournalReads.{display_journal, display_plan}
 use Rattle.joint_state.specs.Sound.{after}
-use Rattle.library_kept.proofs.ResultLemmas.{does-each}
+use Rattle.restart_laws.proofs.ResultLemmas.{does-each}
 use Rattle.replayed_histories.specs.Replayed.{IsReplayed, StandsAs}
 use Rattle.replayed_histories.proofs.DepositLemmas.{replays-kept}
 use Rattle.replayed_histories.proofs.QuietLemmas.{IsQuiet, ended-quiet, moved-whole, moved_times, next-quiet, previous-quiet, quiet-leave, started-quiet}

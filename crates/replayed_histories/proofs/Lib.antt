@@ -43,3 +43,16 @@ pub mod PhysicalRequests
 pub mod LessLemmas
 pub mod DeleteRequests
 pub mod JoinedLemmas
+pub use Rattle.restart_laws.proofs.CatalogueLemmas
+pub use Rattle.restart_laws.proofs.DescribedLemmas
+pub use Rattle.restart_laws.proofs.GoesLemmas
+pub use Rattle.restart_laws.proofs.HeldLemmas
+pub use Rattle.restart_laws.proofs.KeptLemmas
+pub use Rattle.restart_laws.proofs.LeftLemmas
+pub use Rattle.restart_laws.proofs.ReferenceLemmas
+pub use Rattle.restart_laws.proofs.RoomLemmas
+pub use Rattle.restart_laws.proofs.SilentLemmas
+pub use Rattle.restart_laws.proofs.StableLemmas
+pub use Rattle.restart_laws.proofs.StandLemmas
+pub use Rattle.restart_laws.proofs.ViewLemmas
+pub use Rattle.sound_histories.proofs.HistoryLemmas as SoundHistoriesHistoryLemmas

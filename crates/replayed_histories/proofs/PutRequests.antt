@@ -27,14 +27,14 @@ use Rattle.library_steps.specs.UniqueKeys.{keys_free}
 use Rattle.library_steps.specs.WriteRecord.{format_asked, has_room, is_input, next_place, packed, place_asked, place_plan, write_call, write_change, write_plan, write_record}
 use Rattle.joint_state.specs.CurrentRecords.{CurrentStands}
 use Rattle.joint_state.specs.Sound.{IsSound, after}
-use Rattle.library_kept.proofs.ChangeLemmas.{MayChange}
-use Rattle.library_kept.proofs.ChangeLemmas as kept
-use Rattle.library_kept.proofs.PlanLemmas.{named-each}
-use Rattle.library_kept.proofs.ResultLemmas.{does-each}
-use Rattle.cycles_kept.proofs.HoldLemmas.{Holds, bind-holds, found-there, holds-done, if-not, then-holds}
-use Rattle.cycles_kept.proofs.JobLemmas.{IsAsking, asking}
-use Rattle.cycles_kept.proofs.PutLemmas.{MayPut, Puts, files-noted, gone-noted, last-noted, members-noted}
-use Rattle.cycles_kept.proofs.RecordSteps.{Finds, delete-may, delete-puts, opened_file-finds, update-may, update-puts, write-may, write-puts, write_call-change}
+use Rattle.restart_laws.proofs.ChangeLemmas.{MayChange}
+use Rattle.restart_laws.proofs.ChangeLemmas as kept
+use Rattle.restart_laws.proofs.PlanLemmas.{named-each}
+use Rattle.restart_laws.proofs.ResultLemmas.{does-each}
+use Rattle.sound_histories.proofs.HoldLemmas.{Holds, bind-holds, found-there, holds-done, if-not, then-holds}
+use Rattle.sound_histories.proofs.JobLemmas.{IsAsking, asking}
+use Rattle.sound_histories.proofs.PutLemmas.{MayPut, Puts, files-noted, gone-noted, last-noted, members-noted}
+use Rattle.sound_histories.proofs.RecordSteps.{Finds, delete-may, delete-puts, opened_file-finds, update-may, update-puts, write-may, write-puts, write_call-change}
 use Rattle.replayed_histories.specs.Replayed.{IsReplayed}
 use Rattle.replayed_histories.specs.Requests.{AreReplaysKeptBy}
 use Rattle.replayed_histories.proofs.RecordLemmas.{IsReal}

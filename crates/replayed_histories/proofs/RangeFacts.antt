@@ -32,12 +32,12 @@ use Rattle.library_model.specs.declared.replies.Reply.TheVariants as replies
 use Rattle.library_model.specs.declared.replies.LimitKind.TheVariants.{BlockBytes, LibraryBytes}
 use Rattle.library_model.specs.declared.requests.JournaledChanges.{JournaledChanges}
 use Rattle.library_model.specs.declared.requests.RangeEnd.{RangeEnd}
-use Rattle.library_kept.proofs.ListLemmas.{each-drop, each-reverse, each-take, each-weaker}
-use Rattle.library_kept.proofs.PlanLemmas.{member-is, named-member}
-use Rattle.library_kept.proofs.RangeLemmas.{ActFits, Fits, NumberedFits, TellsOf, acts-fit, apply_range-fits, entry_before-tells, remove_range-fits}
-use Rattle.library_kept.proofs.ResultLemmas.{bind-ok, none-refused, not-refused, ok-equal}
-use Rattle.library_kept.proofs.StandLemmas.{within-of}
-use Rattle.library_kept.proofs.WorkLemmas.{GivenFits}
+use Rattle.restart_laws.proofs.ListLemmas.{each-drop, each-reverse, each-take, each-weaker}
+use Rattle.restart_laws.proofs.PlanLemmas.{member-is, named-member}
+use Rattle.restart_laws.proofs.RangeLemmas.{ActFits, Fits, NumberedFits, TellsOf, acts-fit, apply_range-fits, entry_before-tells, remove_range-fits}
+use Rattle.restart_laws.proofs.ResultLemmas.{bind-ok, none-refused, not-refused, ok-equal}
+use Rattle.restart_laws.proofs.LibraryKeptStandLemmas.{within-of}
+use Rattle.restart_laws.proofs.WorkLemmas.{GivenFits}
 use Rattle.lawful_states.specs.Lawful.{HoldsValues}
 use Rattle.lawful_states.proofs.MemberLemmas.{HasRecords-member_of}
 use Rattle.library_steps.specs.declared.limits.TheConstants.{MOST_BLOCK_BYTES, MOST_LIBRARY_BYTES}

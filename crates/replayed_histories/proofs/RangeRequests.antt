@@ -27,10 +27,10 @@ use Rattle.journal_model.specs.Replayable.{is_one_of}
 use Rattle.journal_model.specs.Rollback.{MemberChange, of_member}
 use Rattle.journal_model.proofs.EachLemmas.{one_of-push}
 use Rattle.journal_replay.specs.Standing.{HeldMember, Standing, catalogue_in, members_by, only_begun, standing_after}
-use Rattle.library_kept.proofs.RangeLemmas.{Fits, Fits-put}
-use Rattle.library_kept.proofs.WorkLemmas.{GivenFits}
-use Rattle.library_kept.proofs.ResultLemmas.{does-each}
-use Rattle.library_kept.proofs.PlanLemmas.{same-file}
+use Rattle.restart_laws.proofs.RangeLemmas.{Fits, Fits-put}
+use Rattle.restart_laws.proofs.WorkLemmas.{GivenFits}
+use Rattle.restart_laws.proofs.ResultLemmas.{does-each}
+use Rattle.restart_laws.proofs.PlanLemmas.{same-file}
 use Rattle.lawful_states.specs.Lawful.{HoldsValues}
 use Rattle.lawful_states.proofs.MemberLemmas.{IsThere-is_some, item_at-with_item_same, member_of-with}
 use Rattle.library_model.specs.declared.replies.Reply.{Reply}

@@ -13,7 +13,7 @@ use Rattle.library_steps.specs.Change.{Change}
 use Rattle.library_steps.specs.Refusals.{refuse_if}
 use Rattle.library_steps.specs.Receivers.{delete_receiver, give_up_plan, is_kept, is_needed, is_number, last_in, next_receiver}
 use Rattle.joint_state.specs.Sound.{after}
-use Rattle.library_kept.proofs.ResultLemmas.{bind-ok, does-each, not-refused}
+use Rattle.restart_laws.proofs.ResultLemmas.{bind-ok, does-each, not-refused}
 use Rattle.replayed_histories.specs.Replayed.{IsReplayed}
 
 found-late : (number first : ℕ) (entries : List Entry) → 1 ≤ first → AreNumbered first entries → IfSome (last_in number entries) (λ (last : ℕ). 1 ≤ last)

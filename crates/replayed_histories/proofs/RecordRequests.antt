@@ -30,13 +30,13 @@ use Rattle.lawful_states.specs.Lawful.{HoldsValues}
 use Rattle.lawful_states.proofs.MemberLemmas.{slot_put-appended, slot_put-changed}
 use Rattle.joint_state.specs.Sound.{IsSound, after}
 use Rattle.joint_state.proofs.OpenLemmas.{each-among}
-use Rattle.library_kept.proofs.ChangeLemmas.{MayChange}
-use Rattle.library_kept.proofs.PlanLemmas.{named-each, same-number}
-use Rattle.library_kept.proofs.SlotLemmas.{Stands-slot, there-stands}
-use Rattle.library_kept.proofs.StandLemmas.{Stands, Stands-memory_of, Stands-status}
-use Rattle.cycles_kept.proofs.JobLemmas.{IsAsking, job_changed-none, job_changed-twice}
-use Rattle.cycles_kept.proofs.PlaceLemmas.{IsPlaceFor, slot_of-get}
-use Rattle.cycles_kept.proofs.PutLemmas.{MayPut, put_cycle}
+use Rattle.restart_laws.proofs.ChangeLemmas.{MayChange}
+use Rattle.restart_laws.proofs.PlanLemmas.{named-each, same-number}
+use Rattle.restart_laws.proofs.SlotLemmas.{Stands-slot, there-stands}
+use Rattle.restart_laws.proofs.LibraryKeptStandLemmas.{Stands, Stands-memory_of, Stands-status}
+use Rattle.sound_histories.proofs.JobLemmas.{IsAsking, job_changed-none, job_changed-twice}
+use Rattle.sound_histories.proofs.PlaceLemmas.{IsPlaceFor, slot_of-get}
+use Rattle.sound_histories.proofs.PutLemmas.{MayPut, put_cycle}
 use Rattle.restart_model.specs.Sources.{descriptions}
 use Rattle.replayed_histories.specs.Replayed.{BeganBefore, CyclesStand, IsHeldWithin, IsReplayed, MemberStands, StandsAs}
 use Rattle.replayed_histories.specs.Deposits.{DraftsLeave}

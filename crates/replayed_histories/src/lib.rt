@@ -50,3 +50,5 @@ pub fn ended_journaling_keeps_replays()
         → is_some status.images ≡ true → is_some (member_at status.number s.members) ≡ true → user_of status.number (memory_of s) ≡ None
         → IsReplayed (after s (end_change (memory_of s) job timestamp status)) }
 {}
+
+pub use sound_histories;

@@ -15,7 +15,7 @@ use Rattle.journal_model.specs.Replay.{State, is_other, replay, step}
 use Rattle.journal_model.specs.Replayable.{CanReplay, MayFollow, is_one_of}
 use Rattle.journal_model.proofs.EachLemmas.{one_of-filtered, one_of-push}
 use Rattle.restart_model.specs.Sources.{descriptions}
-use Rattle.restart_laws.proofs.CatalogueLemmas.{set_images}
+use Rattle.replayed_histories.proofs.CatalogueLemmas.{set_images}
 
 -- ---- members
 

@@ -27,10 +27,10 @@ use Rattle.library_steps.specs.CreatePhysicalFile.{described_by}
 use Rattle.library_steps.specs.DeleteFile.{without_file}
 use Rattle.library_steps.specs.State.{FileState, physical_in}
 use Rattle.restart_model.specs.Sources.{described_behind, described_files, descriptions, format_named, if_logical, if_physical, names_by, names_if, spec_beside, spec_named, with_described}
-use Rattle.restart_laws.proofs.DescribedLemmas.{IsBy, IsLogicalBy, IsPhysicalBy, described_state, kind-by}
-use Rattle.restart_laws.proofs.ReferenceLemmas.{NamesOnly, physical-stays}
-use Rattle.restart_laws.proofs.StableLemmas.{NotGone, all-free}
-use Rattle.restart_laws.proofs.ViewLemmas.{logical-same}
+use Rattle.replayed_histories.proofs.DescribedLemmas.{IsBy, IsLogicalBy, IsPhysicalBy, described_state, kind-by}
+use Rattle.replayed_histories.proofs.ReferenceLemmas.{NamesOnly, physical-stays}
+use Rattle.replayed_histories.proofs.StableLemmas.{NotGone, all-free}
+use Rattle.replayed_histories.proofs.ViewLemmas.{logical-same}
 use Rattle.replayed_restarts.proofs.NamesLemmas.{names-back}
 
 -- ---- each file is described beside those before it

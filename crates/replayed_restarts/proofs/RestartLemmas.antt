@@ -17,9 +17,9 @@ use Rattle.library_steps.specs.State.{begun}
 use Rattle.restart_model.specs.Libraries.{journal_with, library_restarted, restart_job}
 use Rattle.restart_model.specs.Sources.{descriptions}
 use Rattle.journaled_entries.specs.Deposited.{AreDeposited}
-use Rattle.restart_laws.proofs.DescribedLemmas.{Among}
-use Rattle.restart_laws.proofs.GoesLemmas.{numbered-among}
-use Rattle.restart_laws.proofs.StandLemmas.{Stands}
+use Rattle.replayed_histories.proofs.DescribedLemmas.{Among}
+use Rattle.replayed_histories.proofs.GoesLemmas.{numbered-among}
+use Rattle.replayed_histories.proofs.StandLemmas.{Stands}
 use Rattle.replayed_histories.specs.Replayed.{IsReplayed}
 use Rattle.replayed_restarts.proofs.LeavesLemmas.{Leaves, Replays, journal-leaves}
 use Rattle.replayed_restarts.proofs.RunLemmas.{AreFew, Reaches, ended}

@@ -42,11 +42,11 @@ use Rattle.restart_model.specs.Libraries.{journal_with}
 use Rattle.restart_model.specs.Sources.{descriptions, fields_beside}
 use Rattle.journaled_entries.specs.Deposited.{AreDeposited, IsJournaledThen}
 use Rattle.journaled_entries.proofs.DepositedLemmas.{journaled-append}
-use Rattle.restart_laws.proofs.CatalogueLemmas.{IsCatalogue}
-use Rattle.restart_laws.proofs.DescribedLemmas.{Among}
-use Rattle.restart_laws.proofs.GoesLemmas.{IsPlainCatalogue, beside-at, fields_at, found-among, own-file}
-use Rattle.restart_laws.proofs.RoomLemmas.{long-at}
-use Rattle.restart_laws.proofs.StandLemmas.{Stands, number-of}
+use Rattle.replayed_histories.proofs.CatalogueLemmas.{IsCatalogue}
+use Rattle.replayed_histories.proofs.DescribedLemmas.{Among}
+use Rattle.replayed_histories.proofs.GoesLemmas.{IsPlainCatalogue, beside-at, fields_at, found-among, own-file}
+use Rattle.replayed_histories.proofs.RoomLemmas.{long-at}
+use Rattle.replayed_histories.proofs.StandLemmas.{Stands, number-of}
 use Rattle.replayed_restarts.proofs.CountedLemmas.{lacks-none}
 use Rattle.replayed_restarts.proofs.LeavesLemmas.{Replays}
 use Rattle.replayed_restarts.proofs.StandLemmas.{journal-stands}

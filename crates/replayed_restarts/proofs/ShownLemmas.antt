@@ -27,12 +27,12 @@ use Rattle.library_steps.specs.SlotChange.{status_among, status_in}
 use Rattle.library_steps.specs.State.{FileState, MemberStatus, fields_of, format_in, physical_in}
 use Rattle.restart_model.specs.Libraries.{file_left, files_left, member_left, records_then, status_left}
 use Rattle.restart_model.specs.Sources.{described_files, fields_beside, fields_if, format_named, if_physical, spec_named}
-use Rattle.restart_laws.proofs.CatalogueLemmas.{AreNamesApart, AreNumbersApart, Differs, HasOther, IsCatalogue}
-use Rattle.restart_laws.proofs.DescribedLemmas.{Among, IsBy, described_state, each-among, kind-by}
-use Rattle.restart_laws.proofs.GoesLemmas.{IsPlainCatalogue, own-file}
-use Rattle.restart_laws.proofs.KeptLemmas.{has-own}
-use Rattle.restart_laws.proofs.LeftLemmas.{members_left, named-files, none-numbered, physical-is, with_members}
-use Rattle.restart_laws.proofs.StableLemmas.{ArePlain, IsPlain, spec_found}
+use Rattle.replayed_histories.proofs.CatalogueLemmas.{AreNamesApart, AreNumbersApart, Differs, HasOther, IsCatalogue}
+use Rattle.replayed_histories.proofs.DescribedLemmas.{Among, IsBy, described_state, each-among, kind-by}
+use Rattle.replayed_histories.proofs.GoesLemmas.{IsPlainCatalogue, own-file}
+use Rattle.replayed_histories.proofs.KeptLemmas.{has-own}
+use Rattle.replayed_histories.proofs.LeftLemmas.{members_left, named-files, none-numbered, physical-is, with_members}
+use Rattle.replayed_histories.proofs.StableLemmas.{ArePlain, IsPlain, spec_found}
 use Rattle.replayed_histories.specs.Shown.{ShownMember, ShowsMembers, catalog_shown, file_shown, held_shown, is_held_in, kind_in, memberless, status_shown}
 use Rattle.replayed_restarts.proofs.FileLemmas.{AreDescribed}
 

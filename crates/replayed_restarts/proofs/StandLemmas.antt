@@ -19,10 +19,10 @@ use Rattle.library_steps.specs.SlotChange.{status_among}
 use Rattle.library_steps.specs.State.{FileState, new_job}
 use Rattle.restart_model.specs.Libraries.{file_left, files_left, journal_with, member_left, status_left}
 use Rattle.restart_model.specs.Sources.{descriptions, described_files}
-use Rattle.restart_laws.proofs.CatalogueLemmas.{empty-is}
-use Rattle.restart_laws.proofs.DescribedLemmas.{Among}
-use Rattle.restart_laws.proofs.GoesLemmas.{numbered-among}
-use Rattle.restart_laws.proofs.StandLemmas.{Stands, stands-all}
+use Rattle.replayed_histories.proofs.CatalogueLemmas.{empty-is}
+use Rattle.replayed_histories.proofs.DescribedLemmas.{Among}
+use Rattle.replayed_histories.proofs.GoesLemmas.{numbered-among}
+use Rattle.replayed_histories.proofs.StandLemmas.{Stands, stands-all}
 use Rattle.replayed_histories.specs.Shown.{AreDifferent, catalog_shown, cycle_numbers, file_shown, memberless}
 use Rattle.replayed_histories.specs.Replayed.{CyclesStand, HasItsChanges, IsHeldWithin, MemberStands, StandsAs}
 use Rattle.replayed_restarts.proofs.CountedLemmas.{AreCounted, entries-counted, nothing-counted}

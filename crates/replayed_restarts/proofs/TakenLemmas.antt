@@ -18,12 +18,12 @@ use Rattle.lawful_states.specs.Lawful.{HoldsValues}
 use Rattle.restart_model.specs.Libraries.{journal_with}
 use Rattle.restart_model.specs.Sources.{descriptions}
 use Rattle.journaled_entries.specs.Deposited.{AreDeposited}
-use Rattle.restart_laws.proofs.CatalogueLemmas.{empty-is}
-use Rattle.restart_laws.proofs.DescribedLemmas.{Among, each-among}
-use Rattle.restart_laws.proofs.GoesLemmas.{fields_at, found-among}
-use Rattle.restart_laws.proofs.HeldLemmas.{IsUndo}
-use Rattle.restart_laws.proofs.SilentLemmas.{silent-all}
-use Rattle.restart_laws.proofs.StandLemmas.{Stands}
+use Rattle.replayed_histories.proofs.CatalogueLemmas.{empty-is}
+use Rattle.replayed_histories.proofs.DescribedLemmas.{Among, each-among}
+use Rattle.replayed_histories.proofs.GoesLemmas.{fields_at, found-among}
+use Rattle.replayed_histories.proofs.HeldLemmas.{IsUndo}
+use Rattle.replayed_histories.proofs.SilentLemmas.{silent-all}
+use Rattle.replayed_histories.proofs.StandLemmas.{Stands}
 use Rattle.replayed_restarts.proofs.LeavesLemmas.{Leaves, Replays, journal-leaves}
 use Rattle.replayed_restarts.proofs.StandLemmas.{journal-counted, journal-stands}
 

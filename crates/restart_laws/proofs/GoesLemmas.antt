@@ -20,7 +20,7 @@ use Rattle.journal_model.specs.Catalogue.{Catalogue, CatalogFile, CatalogMember,
 use Rattle.journal_model.specs.Images.{AreRecords, AreRecordsOf, HasRecords, images_of}
 use Rattle.lawful_states.proofs.NameLemmas.{same_name-equal, same_name-symm, some-equal}
 use Rattle.library_steps.specs.CreatePhysicalFile.{described_by}
-use Rattle.joint_state.specs.Told.{IsRecordOf}
+use Rattle.library_kept.specs.Told.{IsRecordOf}
 use Rattle.restart_model.specs.Sources.{described_files, descriptions, fields_beside, fields_if, format_named, if_physical, spec_named}
 use Rattle.restart_laws.proofs.CatalogueLemmas.{AreNumbersApart, HasOther, HasPhysical, IsCatalogue, set_images}
 use Rattle.restart_laws.proofs.DescribedLemmas.{Among, each-among}

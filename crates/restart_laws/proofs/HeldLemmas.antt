@@ -18,7 +18,7 @@ use Rattle.journal_model.proofs.PlaceLemmas.{length-put_slot}
 use Rattle.journal_model.proofs.SoundLemmas.{told_by}
 use Rattle.logical_laws.proofs.ListLemmas.{each-append, each-filter}
 use Rattle.lawful_states.specs.Lawful.{HoldsValues}
-use Rattle.joint_state.specs.Told.{IsRecordOf}
+use Rattle.library_kept.specs.Told.{IsRecordOf}
 
 -- what an act gives is so
 abbrev pub Gives : (Slot → Type 0) → Act → Type 0

@@ -27,8 +27,8 @@ use Rattle.library_steps.specs.LogicalFiles.{base_in, bases_in}
 use Rattle.library_steps.specs.State.{FileState, MemberStatus, format_in, physical_among, physical_in}
 use Rattle.lawful_states.specs.Lawful.{AreBased, IsBased}
 use Rattle.lawful_states.proofs.BaseLemmas.{physical-here, some-is, some-of}
-use Rattle.joint_state.specs.Limits.{AreFormats}
-use Rattle.joint_state.specs.Views.{AreMapped, HaveDefaults, IsMapped}
+use Rattle.library_kept.specs.Limits.{AreFormats}
+use Rattle.library_kept.specs.Views.{AreMapped, HaveDefaults, IsMapped}
 use Rattle.library_kept.proofs.DefaultLemmas.{physical-defaults}
 use Rattle.library_kept.proofs.FieldLemmas.{physical-laid}
 use Rattle.logical_laws.proofs.SomeLemmas.{logical-some}

@@ -9,7 +9,7 @@ use Rattle.journal_model.specs.Catalogue.{Catalogue, CatalogMember, MayEnterAll,
 use Rattle.journal_model.specs.Images.{HasRecords, images_of}
 use Rattle.journal_model.specs.Journal.{length_in, record_length}
 use Rattle.journal_limits.specs.Lengths.{IsNewTo, KeepsLengths, WasAsLong}
-use Rattle.joint_state.specs.Told.{IsRecordOf}
+use Rattle.library_kept.specs.Told.{IsRecordOf}
 use Rattle.restart_model.specs.Sources.{descriptions}
 use Rattle.restart_laws.proofs.CatalogueLemmas.{IsCatalogue, empty-is, entries-are, entry-is}
 use Rattle.restart_laws.proofs.DescribedLemmas.{Among}

@@ -29,7 +29,7 @@ use Rattle.journal_model.specs.Replayable.{CanReplay}
 use Rattle.journal_model.specs.Rollback.{MemberChange, all_rollback_drafts, change_drafts, missing_behind, missing_draft, missing_kind, numbered_from, of_member, restart_drafts, rollback_drafts, undo_drafts, undo_kinds, undos_of}
 use Rattle.journal_model.proofs.PlaceLemmas.{length-put_slot}
 use Rattle.journaled_entries.specs.Deposited.{is_of_record}
-use Rattle.joint_state.specs.Told.{MayHavePlace, NamesPlace}
+use Rattle.library_kept.specs.Told.{MayHavePlace, NamesPlace}
 use Rattle.restart_model.specs.Sources.{descriptions}
 use Rattle.restart_laws.proofs.CatalogueLemmas.{IsCatalogue}
 use Rattle.restart_laws.proofs.DescribedLemmas.{Among}

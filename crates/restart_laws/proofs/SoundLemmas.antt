@@ -45,9 +45,9 @@ use Rattle.library_steps.specs.Ranges.{library_bytes}
 use Rattle.library_steps.specs.SlotChange.{images_of as images_kept}
 use Rattle.library_steps.specs.State.{State, FileState, fields_of, format_in, memory_of, physical_in}
 use Rattle.lawful_states.specs.Lawful.{HoldsValues, IsThere}
-use Rattle.joint_state.specs.Limits.{AreWithin, IsWithin}
-use Rattle.joint_state.specs.Sound.{IsSound}
-use Rattle.joint_state.specs.Told.{IsRecordOf, IsTold, MayHavePlace, NamesPlace}
+use Rattle.library_kept.specs.Limits.{AreWithin, IsWithin}
+use Rattle.library_kept.specs.Sound.{IsSound}
+use Rattle.library_kept.specs.Told.{IsRecordOf, IsTold, MayHavePlace, NamesPlace}
 use Rattle.library_kept.proofs.FieldLemmas.{length-record}
 use Rattle.restart_model.specs.Libraries.{files_left, journal_with, library_restarted, member_left, record_length_in, restart_job}
 use Rattle.restart_model.specs.Sources.{described_files, descriptions, spec_named}

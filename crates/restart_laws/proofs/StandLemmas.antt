@@ -16,7 +16,7 @@ use Rattle.journal_model.specs.Replay.{State, moved, replay, step, undos_after}
 use Rattle.journal_model.specs.Replayable.{CanReplay, MayFollow}
 use Rattle.journal_replay.proofs.KindLemmas.{quiet_slots}
 use Rattle.lawful_states.specs.Lawful.{HoldsValues}
-use Rattle.joint_state.specs.Told.{IsRecordOf}
+use Rattle.library_kept.specs.Told.{IsRecordOf}
 use Rattle.restart_model.specs.Sources.{descriptions}
 use Rattle.restart_laws.proofs.CatalogueLemmas.{IsCatalogue, entry-is}
 use Rattle.restart_laws.proofs.DescribedLemmas.{Among, each-among}

@@ -20,11 +20,11 @@ ghost use Rattle.library_model.specs.Named.{same_name};
 ghost use Rattle.lawful_states.specs.Lawful.{AreBased};
 ghost use Rattle.library_steps.specs.Ranges.{library_bytes};
 ghost use Rattle.library_steps.specs.declared.limits.TheConstants.{MOST_LIBRARY_BYTES};
-ghost use Rattle.joint_state.specs.Sound.{IsSound};
+ghost use Rattle.library_kept.specs.Sound.{IsSound};
 ghost use Rattle.journaled_entries.specs.Deposited.{AreDeposited};
 ghost use Rattle.restart_laws.specs.Given.{IsLeftAs, IsSameOver};
-ghost use Rattle.joint_state.specs.Limits.{AreFormats};
-ghost use Rattle.joint_state.specs.Views.{AreMapped, HaveDefaults};
+ghost use Rattle.library_kept.specs.Limits.{AreFormats};
+ghost use Rattle.library_kept.specs.Views.{AreMapped, HaveDefaults};
 ghost use Rattle.restart_model.specs.Sources.{descriptions};
 ghost use Rattle.restart_model.specs.Libraries.{journal_with, library_restarted, restart_job};
 

@@ -7,3 +7,4 @@ pub mod library;
 mod placing;
 
 pub use library::restarted_contents;
+pub use library_parts;

@@ -8,7 +8,7 @@ use Rattle.library_steps.specs.State.{State, memory_of, job_at}
 use Rattle.library_steps.specs.Change.{Change, changed}
 use Rattle.library_steps.specs.Step.{change, step, MayAnswer}
 use Rattle.library_steps.specs.History.{is_running, Outcome, Standing, Failed, Comes, Runs}
-use Rattle.joint_state.specs.Sound.{IsSound, Does, after, IsKept}
+use Rattle.cycles_kept.specs.Sound.{IsSound, Does, after, IsKept}
 
 -- the state after an answer, by whether there was a refusal
 changed-sound : (s t : State) (reply : Reply) (r : Result Change Reply) → IsSound s → ((done : Change) → r ≡ Ok done → IsSound (after s done))

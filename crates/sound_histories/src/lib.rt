@@ -14,17 +14,17 @@ ghost use Rattle.library_steps.specs.State.{State, begun, empty_library, job_at}
 ghost use Rattle.library_steps.specs.Change.{Change};
 ghost use Rattle.library_steps.specs.History.{is_running};
 ghost use Rattle.library_steps.specs.Step.{MayAnswer};
-ghost use Rattle.joint_state.specs.Sound.{IsSound, after};
-ghost use Rattle.range_histories.specs.Ranges.{IsDone, Moves, IsAgain, to_before, to_end, again};
+ghost use Rattle.cycles_kept.specs.Sound.{IsSound, after};
+ghost use Rattle.journal_kept.specs.Ranges.{IsDone, Moves, IsAgain, to_before, to_end, again};
 ghost use Rattle.sound_histories.specs.Reached.{IsReached};
 
 use cycles_kept::{cycles_are_kept, entries_stay_numbered, names_stay_apart, opens_stay_journaled};
 use journal_kept::journal_is_kept;
-use library_kept::{empty_library_is_sound, library_is_kept, told_is_kept};
-use locks_kept::{current_records_are_kept, jobs_are_kept, locks_are_kept};
-use range_histories::{
+use journal_kept::range_histories::{
     a_removed_range_is_applied_again, applied_ranges_go_forward, removed_ranges_go_back,
 };
+use library_kept::{empty_library_is_sound, library_is_kept, told_is_kept};
+use locks_kept::{current_records_are_kept, jobs_are_kept, locks_are_kept};
 
 /// A library with nothing in it is sound, whichever jobs begin in it, and whatever may be answered to a job that runs leaves a sound
 /// library sound.

@@ -4,3 +4,5 @@
 pub mod characters;
 pub mod decimals;
 pub mod lines;
+
+pub use field_types;

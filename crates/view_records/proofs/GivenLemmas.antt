@@ -23,10 +23,10 @@ use Rattle.file_model.proofs.PathLemmas.{weaker}
 use Rattle.view_rules.specs.Stored.{EndsWithin, HasPlace, IsStored}
 use Rattle.dds_logical.specs.declared.views.View.{View}
 use Rattle.dds_logical.specs.declared.views.LogicalSpec.TheVariants.{Simple}
-use Rattle.logical_laws.specs.Found.{HoldsRecord}
-use Rattle.logical_laws.specs.Mapped.{IsTextAt, IsSourceMapped, IsFieldMapped}
-use Rattle.logical_laws.proofs.GivenLemmas.{given-makes}
-use Rattle.physical_paths.proofs.FieldLemmas.{width-some}
+use Rattle.logical_paths.specs.Found.{HoldsRecord}
+use Rattle.logical_paths.specs.Mapped.{IsTextAt, IsSourceMapped, IsFieldMapped}
+use Rattle.logical_paths.proofs.GivenLemmas.{given-makes}
+use Rattle.logical_paths.proofs.FieldLemmas.{width-some}
 use Rattle.logical_paths.specs.Steps.{shown_of}
 use Rattle.logical_paths.specs.KeyedViews.{ShowsSource, IsShownOf}
 use Rattle.logical_paths.proofs.ShownLemmas.{among-lies, at-lies}

@@ -14,8 +14,8 @@ use Rattle.view_rules.specs.Shown.{HasValue}
 use Rattle.dds_logical.specs.declared.views.View.{View}
 use Rattle.dds_logical.specs.declared.views.LogicalSpec.{LogicalSpec}
 use Rattle.dds_logical.specs.declared.views.LogicalSpec.TheVariants.{Simple, Multi, Join}
-use Rattle.logical_laws.specs.Mapped.{HoldDefaults}
-use Rattle.physical_paths.specs.KeyedFiles.{IsRecord}
+use Rattle.logical_paths.specs.Mapped.{HoldDefaults}
+use Rattle.logical_paths.specs.KeyedFiles.{IsRecord}
 use Rattle.logical_paths.specs.Steps.{shown_of}
 use Rattle.logical_paths.specs.KeyedViews.{IsShownOf}
 

@@ -3,7 +3,7 @@ ghost use Rattle.std.specs.Prelude.{IfOk};
 ghost use Rattle.std.specs.Option.{ForSome, option_copied};
 ghost use Rattle.record_fmt.specs.Records.{Packs};
 ghost use Rattle.file_model.specs.Views.{base_image};
-ghost use Rattle.logical_laws.specs.Found.{HoldsRecord};
+ghost use Rattle.logical_paths.specs.Found.{HoldsRecord};
 ghost use Rattle.view_records.specs.Through.{IsFormatOf, IsWrittenThrough};
 
 use dds_logical::views::View;

@@ -5,3 +5,5 @@
 pub mod given;
 pub mod laws;
 pub mod shown;
+
+pub use logical_paths;

@@ -4,3 +4,5 @@ pub mod OperandLemmas
 pub mod ShownLemmas
 pub mod StoreLemmas
 pub mod TextLemmas
+pub use Rattle.file_model.proofs.OrderLemmas
+pub use Rattle.file_model.proofs.PathLemmas

@@ -4,13 +4,13 @@ use Rattle.std.specs.Prelude.{◌≡◌, ℕ, ◌+◌, ◌≤◌, ◌⊎◌, Lis
 use Rattle.std.specs.List.{AllByRecursion}
 use Rattle.field_types.specs.declared.kinds.FieldType.{FieldType}
 use Rattle.field_types.specs.declared.values.Value.{Value}
-use Rattle.field_values.specs.FieldTypes.{width}
+use Rattle.field_laws.specs.FieldTypes.{width}
 use Rattle.file_model.specs.declared.views.Piece.{Piece}
 use Rattle.file_model.specs.declared.views.FieldSource.{FieldSource}
 use Rattle.file_model.specs.declared.views.FieldSource.TheVariants.{Copied, Converted, Concatenated, Substring}
 use Rattle.file_model.specs.declared.views.LogicalField.{LogicalField}
 use Rattle.file_model.specs.Views.{base_image, old_or_default}
-use Rattle.record_fmt.specs.declared.formats.Field.{Field}
+use Rattle.file_model.below.record_fmt.specs.declared.formats.Field.{Field}
 use Rattle.view_rules.specs.Shown.{HasShown}
 use Rattle.view_rules.specs.Stored.{IsStored}
 

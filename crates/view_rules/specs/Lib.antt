@@ -2,3 +2,8 @@ pub mod Shown
 pub mod Operands
 pub mod Stored
 pub mod Apart
+pub use Rattle.file_model.specs.KeyOrder
+pub use Rattle.file_model.specs.Paths
+pub use Rattle.file_model.specs.Selection
+pub use Rattle.file_model.specs.Sorting
+pub use Rattle.file_model.specs.Views

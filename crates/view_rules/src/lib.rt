@@ -11,3 +11,5 @@ mod sources;
 pub mod storing;
 mod texts;
 pub mod viewing;
+
+pub use file_model;

@@ -2,8 +2,8 @@
 ghost use Rattle.std.specs.Prelude.{◌≡◌, ◌<◌, ◌≤◌, None, Ok, length, IfOk};
 ghost use Rattle.std.specs.Option.{ForSome, option_copied};
 ghost use Rattle.std.specs.List.{AllByRecursion};
-ghost use Rattle.record_fmt.specs.Layout.{record_length, IsLaidOut};
-ghost use Rattle.record_fmt.specs.Records.{Packs};
+ghost use Rattle.file_model.specs.Layout.{record_length, IsLaidOut};
+ghost use Rattle.file_model.specs.Records.{Packs};
 ghost use Rattle.file_model.specs.Views.{base_image, default_image, old_or_default};
 ghost use Rattle.view_rules.specs.Stored.{HasDefault, IsStored, first_refused, with_values, with_value, refused_by};
 
@@ -12,8 +12,8 @@ use crate::refusals::first_refused;
 use crate::viewing::show_value;
 use field_types::faults::RecordFault;
 use field_types::values::Value;
+use file_model::record_fmt::formats::{Field, Format, PackFault};
 use file_model::views::LogicalField;
-use record_fmt::formats::{Field, Format, PackFault};
 use std::alloc::{AllocError, Global};
 
 /// The record of the base file that values make which are given through a logical format, over the old record where one

@@ -1,4 +1,4 @@
-use Rattle.joint_state.specs.Sound.{IsSound, IsKept}
+use Rattle.cycles_kept.specs.Sound.{IsSound, IsKept}
 use Rattle.sound_histories.proofs.HistoryLemmas.{answer-sound}
 use Rattle.sound_histories.proofs.each_call_leaves_a_sound_library.Goals as goal
 

@@ -1,9 +1,9 @@
 use Rattle.std.proofs.Common.{◌≡◌, ◌∙◌, ◌∷◌, suc, false, None, length, ap, sym, subst, arith, refl}
 use Rattle.std.specs.Prelude.{filter}
 use Rattle.std.specs.List.{AllByRecursion}
-use Rattle.key_pages.specs.declared.entries.Entry.{Entry}
-use Rattle.key_pages.specs.declared.positions.Position.TheVariants.{Before}
-use Rattle.key_pages.specs.Position.{is_less, is_past}
+use Rattle.key_order.below.key_pages.specs.declared.entries.Entry.{Entry}
+use Rattle.key_order.below.key_pages.specs.declared.positions.Position.TheVariants.{Before}
+use Rattle.key_order.specs.Position.{is_less, is_past}
 use Rattle.access_path.specs.Clash.{lesser, least_other}
 use Rattle.access_path.proofs.ClashLemmas.{side-on, clash-begins, clash-above, clash-next, clash-steps, clash-ends, lesser-none}
 use Rattle.access_path.proofs.clash.least_other.Goals as goal

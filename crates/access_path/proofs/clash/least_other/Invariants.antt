@@ -1,7 +1,7 @@
 use Rattle.std.proofs.Common.{◌≡◌, false, length}
 use Rattle.std.specs.Prelude.{filter}
 use Rattle.std.specs.List.{AllByRecursion}
-use Rattle.key_pages.specs.Position.{is_less, is_past}
+use Rattle.key_order.specs.Position.{is_less, is_past}
 use Rattle.access_path.specs.Clash.{lesser, least_other}
 use Rattle.access_path.proofs.clash.least_other.Given as goal
 

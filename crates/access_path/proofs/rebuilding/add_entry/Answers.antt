@@ -1,7 +1,7 @@
 use Rattle.std.proofs.Common.{◌≡◌, ◌+◌, sym, subst, List}
 use Rattle.std.specs.Prelude.{All}
-use Rattle.key_pages.specs.declared.entries.Entry.{Entry}
-use Rattle.key_pages.specs.EntryList.{with_entry}
+use Rattle.key_order.below.key_pages.specs.declared.entries.Entry.{Entry}
+use Rattle.key_order.specs.EntryList.{with_entry}
 use Rattle.access_path.specs.Rebuilding.{IsBefore}
 use Rattle.access_path.proofs.RebuildLemmas.{before-with}
 use Rattle.access_path.proofs.rebuilding.add_entry.Goals as goal

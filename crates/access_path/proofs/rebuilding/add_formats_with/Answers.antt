@@ -1,5 +1,5 @@
 use Rattle.std.proofs.Common.{◌≡◌, ◌∙◌, ◌+◌, ◌<◌, ap, sym, drop, length, get_or, List, arith}
-use Rattle.key_pages.specs.declared.entries.Entry.{Entry}
+use Rattle.key_order.below.key_pages.specs.declared.entries.Entry.{Entry}
 use Rattle.member_slots.specs.Members.{member_of, with_member}
 use Rattle.access_path.specs.KeptEntries.{entries_in, entries_from}
 use Rattle.access_path.specs.Rebuilding.{member_slots, added}

@@ -1,5 +1,5 @@
 use Rattle.std.proofs.Common.{◌≡◌, ◌∙◌, ◌+◌, ap, sym, drop, List}
-use Rattle.key_pages.specs.declared.entries.Entry.{Entry}
+use Rattle.key_order.below.key_pages.specs.declared.entries.Entry.{Entry}
 use Rattle.access_path.specs.KeptEntries.{slot_key, entries_at, entries_in}
 use Rattle.access_path.specs.Rebuilding.{added}
 use Rattle.access_path.proofs.RebuildLemmas.{slots-step}

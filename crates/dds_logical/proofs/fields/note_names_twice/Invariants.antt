@@ -1,5 +1,5 @@
 use Rattle.std.proofs.Common.{◌≡◌, drop, []}
-use Rattle.dds_source.specs.Faults.{first_after}
+use Rattle.dds_physical.specs.Faults.{first_after}
 use Rattle.dds_logical.specs.Fields.{names_twice}
 use Rattle.dds_logical.specs.Judged.{lines_of}
 use Rattle.dds_logical.proofs.fields.note_names_twice.Given as goal

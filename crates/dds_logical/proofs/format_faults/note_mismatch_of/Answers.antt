@@ -1,6 +1,6 @@
 use Rattle.std.proofs.Common.{◌∙◌, ap}
 use Rattle.std.specs.List.{filter_map}
-use Rattle.dds_source.specs.Faults.{first_after}
+use Rattle.dds_physical.specs.Faults.{first_after}
 use Rattle.dds_logical.specs.Judged.{format_with}
 use Rattle.dds_logical.proofs.MismatchLemmas.{mismatch-step}
 use Rattle.dds_logical.proofs.format_faults.note_mismatch_of.Goals as goal

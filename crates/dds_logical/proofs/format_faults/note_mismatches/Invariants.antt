@@ -1,5 +1,5 @@
 use Rattle.std.proofs.Common.{◌≡◌, length, []}
-use Rattle.dds_source.specs.Faults.{first_after}
+use Rattle.dds_physical.specs.Faults.{first_after}
 use Rattle.dds_logical.specs.Mismatches.{mismatches}
 use Rattle.dds_logical.proofs.format_faults.note_mismatches.Given as goal
 

@@ -1,5 +1,5 @@
 use Rattle.std.proofs.Common.{◌≡◌, length, flat_map}
-use Rattle.dds_source.specs.Faults.{first_after}
+use Rattle.dds_physical.specs.Faults.{first_after}
 use Rattle.dds_logical.specs.FormatLines.{formats_in}
 use Rattle.dds_logical.specs.Logical.{view_faults}
 use Rattle.dds_logical.proofs.format_faults.note_views.Given as goal

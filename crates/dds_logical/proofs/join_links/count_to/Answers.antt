@@ -1,5 +1,5 @@
 use Rattle.std.proofs.Common.{◌∙◌, ap, List, length}
-use Rattle.dds_source.specs.declared.specifications.Specification.{Specification}
+use Rattle.dds_physical.below.dds_source.specs.declared.specifications.Specification.{Specification}
 use Rattle.dds_logical.proofs.JoinLineLemmas.{reaching_are}
 use Rattle.dds_logical.proofs.join_links.count_to.Goals as goal
 

@@ -1,5 +1,5 @@
 use Rattle.std.proofs.Common.{◌≡◌, ◌≤◌, drop}
-use Rattle.dds_source.specs.Faults.{first_after}
+use Rattle.dds_physical.specs.Faults.{first_after}
 use Rattle.dds_logical.specs.JudgedKeys.{positions_of}
 use Rattle.dds_logical.proofs.key_mismatches.note_positions.Given as goal
 

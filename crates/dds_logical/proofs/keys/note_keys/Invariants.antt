@@ -1,5 +1,5 @@
 use Rattle.std.proofs.Common.{◌≡◌, drop, flat_map}
-use Rattle.dds_source.specs.Faults.{first_after}
+use Rattle.dds_physical.specs.Faults.{first_after}
 use Rattle.dds_logical.specs.declared.format_lines.LineKind.TheVariants as line_kinds
 use Rattle.dds_logical.specs.Fields.{laid_out}
 use Rattle.dds_logical.specs.Keys.{key_line_faults}

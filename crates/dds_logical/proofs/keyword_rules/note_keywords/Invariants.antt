@@ -1,5 +1,5 @@
 use Rattle.std.proofs.Common.{length, ◌≡◌}
-use Rattle.dds_source.specs.Faults.{first_after}
+use Rattle.dds_physical.specs.Faults.{first_after}
 use Rattle.dds_logical.specs.KeywordRules.{logical_keyword_faults}
 use Rattle.dds_logical.proofs.keyword_rules.note_keywords.Given as goal
 

@@ -1,5 +1,5 @@
 use Rattle.std.proofs.Common.{◌≡◌, drop, map}
-use Rattle.dds_source.specs.Faults.{first_after}
+use Rattle.dds_physical.specs.Faults.{first_after}
 use Rattle.dds_logical.specs.FormatLines.{lines_ahead}
 use Rattle.dds_logical.specs.LineOrder.{out_of_order}
 use Rattle.dds_logical.proofs.line_order.note_ahead.Given as goal

@@ -1,5 +1,5 @@
 use Rattle.std.proofs.Common.{◌≡◌, length, flat_map}
-use Rattle.dds_source.specs.Faults.{first_after}
+use Rattle.dds_physical.specs.Faults.{first_after}
 use Rattle.dds_logical.specs.FormatLines.{formats_in}
 use Rattle.dds_logical.specs.Judged.{order_faults_of}
 use Rattle.dds_logical.proofs.line_order.note_formats.Given as goal

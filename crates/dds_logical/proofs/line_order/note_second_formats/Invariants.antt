@@ -1,5 +1,5 @@
 use Rattle.std.proofs.Common.{◌≡◌, drop, false}
-use Rattle.dds_source.specs.Faults.{first_after}
+use Rattle.dds_physical.specs.Faults.{first_after}
 use Rattle.dds_logical.specs.FormatLines.{formats_in}
 use Rattle.dds_logical.specs.Judged.{second_formats}
 use Rattle.dds_logical.proofs.line_order.note_second_formats.Given as goal

@@ -1,5 +1,5 @@
 use Rattle.std.proofs.Common.{◌∙◌, List, sym, subst}
-use Rattle.dds_source.specs.declared.specifications.Specification.{Specification}
+use Rattle.dds_physical.below.dds_source.specs.declared.specifications.Specification.{Specification}
 use Rattle.dds_logical.specs.Judged.{format_with}
 use Rattle.dds_logical.specs.Complete.{IsComplete}
 use Rattle.dds_logical.proofs.FileLemmas.{complete_at}

@@ -1,6 +1,6 @@
 use Rattle.std.proofs.Common.{sym, subst, Option, IfSome}
 use Rattle.field_types.specs.declared.kinds.FieldType.{FieldType}
-use Rattle.field_values.specs.FieldTypes.{IsFieldType}
+use Rattle.record_fmt.specs.FieldTypes.{IsFieldType}
 use Rattle.dds_logical.proofs.TestedLemmas.{type_allowed}
 use Rattle.dds_logical.proofs.selections.allowed_type.Goals as goal
 

@@ -1,5 +1,5 @@
 use Rattle.std.proofs.Common.{◌≡◌, drop, flat_map}
-use Rattle.dds_source.specs.Faults.{first_after}
+use Rattle.dds_physical.specs.Faults.{first_after}
 use Rattle.dds_logical.specs.Selections.{field_to_test, other_field_faults}
 use Rattle.dds_logical.proofs.selections.note_other_fields.Given as goal
 

@@ -1,5 +1,5 @@
 use Rattle.std.proofs.Common.{◌≡◌, length}
-use Rattle.dds_source.specs.Faults.{first_after}
+use Rattle.dds_physical.specs.Faults.{first_after}
 use Rattle.dds_logical.specs.declared.format_lines.LineKind.TheVariants as line_kinds
 use Rattle.dds_logical.specs.Selections.{field_to_test, selection_lines_faults}
 use Rattle.dds_logical.specs.Judged.{lines_of}

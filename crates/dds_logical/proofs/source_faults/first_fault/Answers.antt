@@ -1,7 +1,7 @@
 use Rattle.std.proofs.Common.{◌∙◌, ap, Bool, List, None, Option}
-use Rattle.dds_source.specs.declared.faults.DdsFault.{DdsFault}
-use Rattle.dds_source.specs.declared.specifications.Specification.{Specification}
-use Rattle.dds_source.specs.Faults.{first_after}
+use Rattle.dds_physical.below.dds_source.specs.declared.faults.DdsFault.{DdsFault}
+use Rattle.dds_physical.below.dds_source.specs.declared.specifications.Specification.{Specification}
+use Rattle.dds_physical.specs.Faults.{first_after}
 use Rattle.dds_logical.specs.FormatLines.{formats_in, is_join_file}
 use Rattle.dds_logical.specs.Logical.{faults_over}
 use Rattle.dds_logical.proofs.FileLemmas.{faults_are}

@@ -1,6 +1,6 @@
 use Rattle.std.proofs.Common.{◌∙◌, ◌||◌, ◌==◌, ap, sym, Bool, List, length, arith}
 use Rattle.std.specs.List.{list_any}
-use Rattle.dds_source.specs.declared.specifications.Specification.{Specification}
+use Rattle.dds_physical.below.dds_source.specs.declared.specifications.Specification.{Specification}
 use Rattle.dds_logical.specs.FormatLines.{FormatLines, field_lines, formats_in}
 use Rattle.dds_logical.specs.Judged.{is_fieldless_at}
 use Rattle.dds_logical.proofs.FormatLemmas.{fieldless_more, found-split}

@@ -1,6 +1,6 @@
 use Rattle.std.proofs.Common.{◌≡◌, sym, subst, Result, ℕ, arith, rules, ok_or}
-use Rattle.field_types.specs.declared.faults.ValueFault.{ValueFault}
-use Rattle.field_types.specs.declared.faults.ValueFault.TheVariants.{TooManyDecimals, TooWide}
+use Rattle.decimal_order.below.field_types.specs.declared.faults.ValueFault.{ValueFault}
+use Rattle.decimal_order.below.field_types.specs.declared.faults.ValueFault.TheVariants.{TooManyDecimals, TooWide}
 use Rattle.field_values.specs.FieldBytes.{Rescaled}
 use Rattle.field_values.proofs.ScaleLemmas.{Rescaled-widened, Rescaled-narrowed}
 use Rattle.field_values.proofs.decimals.scaled.Goals as goal

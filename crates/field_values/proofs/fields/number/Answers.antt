@@ -1,8 +1,8 @@
 use Rattle.std.proofs.Common.{◌≡◌, FitsSigned, rules, subst, sym, ◌∙◌}
 use Rattle.std.specs.Int.{w64, w128}
 use Rattle.std.proofs.lemmas.Int.{to_z-of_z}
-use Rattle.field_types.specs.declared.values.Value.{Value}
-use Rattle.field_types.specs.declared.values.Value.TheVariants.{Number}
+use Rattle.decimal_order.below.field_types.specs.declared.values.Value.{Value}
+use Rattle.decimal_order.below.field_types.specs.declared.values.Value.TheVariants.{Number}
 use Rattle.field_values.specs.FieldBytes.{stands, decimal}
 use Rattle.field_values.proofs.FieldLemmas.{stands-zoned, stands-packed, stands-binary}
 use Rattle.field_values.proofs.fields.number.Goals as goal

@@ -1,7 +1,7 @@
 use Rattle.std.proofs.Common.{inr, refl, sym, subst, map}
 use Rattle.std.specs.String.{string_bytes}
 use Rattle.library_steps.specs.State.{State, begun}
-use Rattle.replayed_histories.specs.Replayed.{IsReplayed}
+use Rattle.front_laws.specs.Replayed.{IsReplayed}
 use Rattle.ibmi_batch.proofs.RunLemmas.{runs-over, unopened}
 use Rattle.ibmi_batch.proofs.running.run_scripts.Goals as goal
 

@@ -1,4 +1,4 @@
-use Rattle.library_steps.specs.Uses.{uses}
+use Rattle.lawful_states.specs.Uses.{uses}
 use Rattle.job_table.proofs.UserLemmas.{first_job-members, first_user-joined}
 use Rattle.job_table.proofs.laws.users_are_joined.Goals as goal
 

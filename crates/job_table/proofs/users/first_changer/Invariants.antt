@@ -1,5 +1,5 @@
 use Rattle.std.proofs.Common.{◌≡◌, ◌+◌, map, drop}
-use Rattle.library_steps.specs.Uses.{first_job, has_changed}
+use Rattle.lawful_states.specs.Uses.{first_job, has_changed}
 use Rattle.job_table.proofs.users.first_changer.Given as goal
 
 abbrev pub invariant-loop-i : goal.invariant-loop-i

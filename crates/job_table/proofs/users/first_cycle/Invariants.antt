@@ -1,5 +1,5 @@
 use Rattle.std.proofs.Common.{◌≡◌, ◌≤◌, length, map, drop}
-use Rattle.library_steps.specs.Checkpoint.{least_of}
+use Rattle.lawful_states.specs.Checkpoint.{least_of}
 use Rattle.job_table.specs.Users.{cycle_starts}
 use Rattle.job_table.proofs.users.first_cycle.Given as goal
 

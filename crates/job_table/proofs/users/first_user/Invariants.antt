@@ -1,5 +1,5 @@
 use Rattle.std.proofs.Common.{◌≡◌, ◌+◌, map, drop}
-use Rattle.library_steps.specs.Uses.{first_job}
+use Rattle.lawful_states.specs.Uses.{first_job}
 use Rattle.job_table.specs.Users.{has_in_use}
 use Rattle.job_table.proofs.users.first_user.Given as goal
 

@@ -6,7 +6,7 @@ use Rattle.file_model.specs.Positions as model
 use Rattle.join_rows.specs.declared.rows.Row.{Row}
 use Rattle.join_rows.specs.NextRow.{next_row}
 use Rattle.join_rows.specs.Rows.{IsFound, parts_in}
-use Rattle.key_values.specs.KeyValues.{values_in}
+use Rattle.open_position.specs.KeyValues.{values_in}
 use Rattle.join_position.specs.RowReads.{first_row, where_bytes}
 use Rattle.join_position.proofs.BackLemmas.{given-known}
 use Rattle.join_position.proofs.ChainLemmas.{chained}

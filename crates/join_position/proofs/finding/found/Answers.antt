@@ -4,7 +4,7 @@ use Rattle.join_rows.specs.declared.rows.Row.{Row}
 use Rattle.join_rows.specs.NextRow.{next_row, prior_row}
 use Rattle.join_rows.specs.Rows.{IsFound, parts_in}
 use Rattle.open_position.specs.declared.reads.ReadBy.{ReadBy}
-use Rattle.key_values.specs.KeyValues.{values_in}
+use Rattle.open_position.specs.KeyValues.{values_in}
 use Rattle.join_position.specs.RowReads.{IsAskedOf, asked_row, where_row}
 use Rattle.join_position.proofs.FindLemmas.{next-stood, prior-stood, where-found}
 use Rattle.join_position.proofs.finding.found.Goals as goal

@@ -1,5 +1,5 @@
 use Rattle.std.proofs.Common.{◌∙◌, ap}
-use Rattle.key_values.specs.KeyValues.{values_in}
+use Rattle.open_position.specs.KeyValues.{values_in}
 use Rattle.join_position.proofs.BackLemmas.{given-back}
 use Rattle.join_position.proofs.GivenLemmas.{is-ok, on_ok}
 use Rattle.join_position.proofs.given.write_given.Goals as goal

@@ -1,7 +1,7 @@
 use Rattle.std.proofs.Common.{◌∙◌, ap, is_some, rules, FitsSigned}
 use Rattle.std.specs.Int.{w128}
 use Rattle.std.proofs.lemmas.Int.{to_z-of_z}
-use Rattle.field_values.specs.FieldBytes.{held, as_held}
+use Rattle.field_laws.specs.FieldBytes.{held, as_held}
 use Rattle.field_laws.proofs.WrittenLemmas.{stands-written}
 use Rattle.key_order.proofs.positions.number_given.Goals as goal
 

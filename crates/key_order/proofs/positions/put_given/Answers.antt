@@ -3,8 +3,8 @@ use Rattle.key_spec.specs.declared.KeyPart.{KeyPart}
 use Rattle.key_spec.specs.declared.KeyPart.TheVariants.{Field}
 use Rattle.field_types.specs.declared.values.Value.{Value}
 use Rattle.field_types.specs.declared.values.Value.TheVariants.{Chars, Number}
-use Rattle.field_values.specs.FieldTypes.{IsFieldType, width, packed_width}
-use Rattle.field_values.specs.FieldBytes.{fault_of, filled}
+use Rattle.field_laws.specs.FieldTypes.{IsFieldType, width, packed_width}
+use Rattle.field_laws.specs.FieldBytes.{fault_of, filled}
 use Rattle.file_model.specs.KeyOrder.{given_value}
 use Rattle.key_order.specs.KeyBytes.{digits_of, position_bytes, turned}
 use Rattle.key_order.specs.KeyFields.{IsPosition, position_width, value_width}

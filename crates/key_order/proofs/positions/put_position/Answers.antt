@@ -1,6 +1,6 @@
 use Rattle.std.proofs.Common.{◌≡◌, ◌∙◌, ◌∷◌, ap, sym, subst, false, rules, List, ℕ}
 use Rattle.key_spec.specs.declared.KeyPart.{KeyPart}
-use Rattle.field_values.specs.FieldTypes.{is_numeric}
+use Rattle.field_laws.specs.FieldTypes.{is_numeric}
 use Rattle.file_model.specs.KeyOrder.{key_value}
 use Rattle.key_order.specs.KeyBytes.{digits_of, position_bytes, turned}
 use Rattle.key_order.specs.KeyFields.{HasField, HasPosition}

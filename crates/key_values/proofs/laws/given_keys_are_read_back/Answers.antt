@@ -1,5 +1,5 @@
 use Rattle.std.proofs.lemmas.List.Elements.{recursion_from_All}
-use Rattle.file_model.specs.KeyOrder.{given_key}
+use Rattle.key_order.specs.KeyOrder.{given_key}
 use Rattle.key_order.specs.GivenValues.{IsOfBytes}
 use Rattle.key_order.proofs.KeyLemmas.{given-fits, none-at-fault}
 use Rattle.key_order.proofs.WidthLemmas.{length-encoded_values}

@@ -1,6 +1,6 @@
 use Rattle.std.proofs.Common.{◌<◌}
 use Rattle.std.proofs.lemmas.List.Elements.{recursion_from_All}
-use Rattle.file_model.specs.KeyOrder.{key_of}
+use Rattle.key_order.specs.KeyOrder.{key_of}
 use Rattle.key_order.proofs.KeyLemmas.{image-fits}
 use Rattle.key_order.proofs.WidthLemmas.{length-encoded}
 use Rattle.key_values.proofs.AmongLemmas.{among-width}

@@ -1,5 +1,5 @@
 use Rattle.std.proofs.lemmas.List.Elements.{All-from_recursion}
-use Rattle.file_model.specs.KeyOrder.{merged_parts}
+use Rattle.key_order.specs.KeyOrder.{merged_parts}
 use Rattle.key_values.specs.KeyValues.{AreAmong}
 use Rattle.key_values.proofs.AmongLemmas.{among-itself, among-merged}
 use Rattle.key_values.proofs.laws.positions_are_among.Goals as goal

@@ -1,6 +1,6 @@
 use Rattle.std.proofs.Common.{◌≡◌, true, sym, ◌∙◌, subst}
 use Rattle.library_model.specs.declared.requests.Request.{Request}
-use Rattle.deposited_entries.specs.Deposits.{switches}
+use Rattle.journal_fronts.specs.Deposits.{switches}
 use Rattle.journal_fronts.specs.Fronts.{entries_behind}
 use Rattle.library_core.specs.Puts.{HasAnswered, HasPut}
 use Rattle.library_core.proofs.RequestLemmas.{is-switch}

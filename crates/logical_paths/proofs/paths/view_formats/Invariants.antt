@@ -1,5 +1,5 @@
 use Rattle.std.proofs.Common.{◌≡◌, ◌++◌, drop, map}
-use Rattle.logical_model.specs.FilePaths.{view_format}
+use Rattle.logical_laws.specs.FilePaths.{view_format}
 use Rattle.logical_paths.proofs.paths.view_formats.Given as goal
 
 abbrev pub invariant-loop-view : goal.invariant-loop-view

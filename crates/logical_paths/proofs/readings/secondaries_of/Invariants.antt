@@ -1,5 +1,5 @@
 use Rattle.std.proofs.Common.{◌≡◌, ◌++◌, drop, map}
-use Rattle.logical_model.specs.FilePaths.{secondary_of}
+use Rattle.logical_laws.specs.FilePaths.{secondary_of}
 use Rattle.logical_paths.specs.Steps.{HaveDefaults}
 use Rattle.logical_paths.proofs.readings.secondaries_of.Given as goal
 

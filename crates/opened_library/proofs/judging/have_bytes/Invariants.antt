@@ -1,5 +1,5 @@
 use Rattle.std.specs.List.{AllByRecursion}
-use Rattle.deposited_entries.specs.Counted.{HasBytes}
+use Rattle.kept_library.specs.Counted.{HasBytes}
 use Rattle.opened_library.proofs.judging.have_bytes.Given as goal
 
 abbrev pub invariant-loop-file : goal.invariant-loop-file

@@ -2,7 +2,7 @@ use Rattle.std.proofs.Common.{◌≤◌, ℕ, List, refl, subst}
 use Rattle.std.specs.List.{AllByRecursion}
 use Rattle.member_slots.specs.Members.{NumberedMembers}
 use Rattle.library_steps.specs.State.{FileState}
-use Rattle.deposited_entries.specs.Counted.{HasBytes}
+use Rattle.kept_library.specs.Counted.{HasBytes}
 use Rattle.opened_library.proofs.JudgedLemmas.{may-deposit}
 use Rattle.opened_library.proofs.judging.may_deposit.Goals as goal
 

@@ -3,8 +3,8 @@ use Rattle.std.specs.Prelude.{IfOk}
 use Rattle.std.specs.Option.{option_copied}
 use Rattle.logical_model.specs.Formats.{given_in}
 use Rattle.logical_laws.specs.Found.{HoldsRecord}
-use Rattle.file_catalogue.specs.declared.bodies.FileBody.{FileBody}
-use Rattle.file_catalogue.specs.Bodies.{spec_in}
+use Rattle.library_parts.below.file_catalogue.specs.declared.bodies.FileBody.{FileBody}
+use Rattle.library_parts.specs.Bodies.{spec_in}
 use Rattle.library_steps.specs.State.{memory_of}
 use Rattle.library_steps.specs.LogicalFiles.{bases_of}
 use Rattle.library_steps.specs.WriteRecord.{packed}

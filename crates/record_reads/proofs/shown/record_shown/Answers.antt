@@ -3,7 +3,7 @@ use Rattle.logical_model.specs.Bases.{FileSpec}
 use Rattle.library_steps.specs.LogicalFiles.{bases_of}
 use Rattle.library_steps.specs.Records.{live_record}
 use Rattle.library_steps.specs.State.{fields_of, memory_of}
-use Rattle.file_catalogue.specs.Bodies.{spec_in}
+use Rattle.library_parts.specs.Bodies.{spec_in}
 use Rattle.record_reads.specs.Shown.{ShowsImage}
 use Rattle.record_reads.proofs.ShownLemmas.{record-there, shows-image, shown-as}
 use Rattle.record_reads.proofs.shown.record_shown.Goals as goal

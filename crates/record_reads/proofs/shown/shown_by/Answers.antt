@@ -4,8 +4,8 @@ use Rattle.logical_model.specs.Bases.{LogicalFile}
 use Rattle.logical_model.specs.Formats.{shown_in}
 use Rattle.library_model.specs.declared.replies.RecordRead.{RecordRead}
 use Rattle.library_steps.specs.Reads.{read_as}
-use Rattle.file_catalogue.specs.declared.bodies.FileBody.{FileBody}
-use Rattle.file_catalogue.specs.Bodies.{spec_in}
+use Rattle.library_parts.below.file_catalogue.specs.declared.bodies.FileBody.{FileBody}
+use Rattle.library_parts.specs.Bodies.{spec_in}
 use Rattle.record_reads.specs.Shown.{ShowsImage}
 use Rattle.record_reads.proofs.shown.shown_by.Goals as goal
 

@@ -1,8 +1,8 @@
 use Rattle.std.proofs.Common.{◌≡◌, ◌∙◌, ap, sym, Ok, List, ℕ, length}
 use Rattle.std.specs.Option.{option_copied}
 use Rattle.std.specs.Result.{is_ok}
-use Rattle.record_fmt.specs.declared.formats.Field.{Field}
-use Rattle.record_fmt.proofs.WrittenLemmas.{written-back}
+use Rattle.file_model.below.record_fmt.specs.declared.formats.Field.{Field}
+use Rattle.file_model.proofs.WrittenLemmas.{written-back}
 use Rattle.file_model.specs.Views.{old_or_default}
 use Rattle.view_rules.specs.Stored.{with_values}
 use Rattle.view_rules.proofs.StoreLemmas.{base-refused, base-accepted}

@@ -1,6 +1,6 @@
 use Rattle.std.proofs.Common.{◌≡◌, ◌++◌, ◌+◌, true, drop, length}
 use Rattle.std.specs.List.{AllByRecursion}
-use Rattle.record_fmt.specs.Layout.{lies_from, record_length}
+use Rattle.file_model.specs.Layout.{lies_from, record_length}
 use Rattle.file_model.specs.Views.{default_image}
 use Rattle.view_rules.specs.Stored.{HasDefault}
 use Rattle.view_rules.proofs.storing.defaults.Given as goal

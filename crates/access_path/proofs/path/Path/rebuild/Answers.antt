@@ -1,5 +1,5 @@
 use Rattle.std.proofs.Common.{◌≡◌, ◌∙◌, ap, sym, Bool}
-use Rattle.key_pages.specs.EntryList.{EntryList}
+use Rattle.key_order.specs.EntryList.{EntryList}
 use Rattle.access_path.specs.KeptEntries.{kept}
 use Rattle.access_path.specs.Rebuilding.{member_slots}
 use Rattle.access_path.proofs.RebuildLemmas.{added-kept}

@@ -1,5 +1,5 @@
 use Rattle.std.proofs.Common.{◌≡◌, ◌+◌, ◌≤◌, List, sym, ap, subst, arith}
-use Rattle.field_values.specs.FieldTypes.{IsFieldType, width}
+use Rattle.record_fmt.specs.FieldTypes.{IsFieldType, width}
 use Rattle.record_fmt.specs.declared.formats.Field.{Field}
 use Rattle.record_fmt.specs.Layout.{record_length}
 use Rattle.record_fmt.proofs.LayoutLemmas.{allowed-at, record_length-more, record_length-take}

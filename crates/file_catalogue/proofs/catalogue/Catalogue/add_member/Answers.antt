@@ -3,9 +3,9 @@ use Rattle.std.specs.Map.{set_value}
 use Rattle.std.specs.Option.{option_copied_mut}
 use Rattle.indexmap.specs.IndexMap.{get}
 use Rattle.library_model.specs.Named.{Named, same_name}
-use Rattle.library_steps.specs.State.{FileState}
-use Rattle.library_steps.specs.CreatePhysicalFile.{new_status}
-use Rattle.library_steps.specs.MemberCommands.{with_member_name, file_changed}
+use Rattle.lawful_states.specs.State.{FileState}
+use Rattle.lawful_states.specs.CreatePhysicalFile.{new_status}
+use Rattle.lawful_states.specs.MemberCommands.{with_member_name, file_changed}
 use Rattle.file_catalogue.specs.OwnMembers.{HasOwnMembers, HaveOwnMembers}
 use Rattle.file_catalogue.proofs.MapLemmas.{on_ok}
 use Rattle.lawful_states.proofs.ChangeLemmas.{owned-member_added, set_value-file_changed}

@@ -3,7 +3,7 @@ use Rattle.std.specs.Map.{set_value}
 use Rattle.std.specs.Option.{option_copied_mut}
 use Rattle.indexmap.specs.IndexMap.{get}
 use Rattle.library_model.specs.Named.{same_name}
-use Rattle.library_steps.specs.State.{status_changed}
+use Rattle.lawful_states.specs.State.{status_changed}
 use Rattle.lawful_states.specs.Statuses.{after}
 use Rattle.file_catalogue.proofs.MapLemmas.{lends_some}
 use Rattle.lawful_states.proofs.NameLemmas.{some-equal}

@@ -1,5 +1,5 @@
 use Rattle.std.proofs.Common.{◌≡◌}
-use Rattle.library_steps.specs.DeleteFile.{first_dependent}
+use Rattle.lawful_states.specs.DeleteFile.{first_dependent}
 use Rattle.file_catalogue.proofs.catalogue.Catalogue.first_dependent.Given as goal
 
 abbrev pub invariant-loop-other : goal.invariant-loop-other

@@ -1,4 +1,4 @@
-use Rattle.library_steps.specs.CreatePhysicalFile.{new_status}
+use Rattle.lawful_states.specs.CreatePhysicalFile.{new_status}
 use Rattle.file_catalogue.specs.Bodies.{spec_in}
 use Rattle.file_catalogue.proofs.OwnMemberLemmas.{some-member, member-more}
 use Rattle.file_catalogue.proofs.files.File.add_member.Goals as goal

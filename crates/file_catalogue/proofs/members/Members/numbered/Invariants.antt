@@ -1,5 +1,5 @@
 use Rattle.std.proofs.Common.{◌≡◌, drop}
-use Rattle.library_steps.specs.SlotChange.{status_in}
+use Rattle.lawful_states.specs.SlotChange.{status_in}
 use Rattle.file_catalogue.proofs.members.Members.numbered.Given as goal
 
 abbrev pub invariant-loop-status : goal.invariant-loop-status

@@ -1,5 +1,5 @@
 use Rattle.std.proofs.Common.{◌≡◌, ◌≤◌, ◌<◌, length, vec_len, vec_capacity, arith, rules}
-use Rattle.library_steps.specs.declared.limits.TheConstants.{MOST_MEMBERS}
+use Rattle.lawful_states.below.library_steps.specs.declared.limits.TheConstants.{MOST_MEMBERS}
 use Rattle.file_catalogue.proofs.OwnMemberLemmas.{room-there, room-of}
 use Rattle.file_catalogue.proofs.members.Members.push.Goals as goal
 

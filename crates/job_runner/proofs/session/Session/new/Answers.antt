@@ -1,7 +1,7 @@
 use Rattle.std.proofs.Common.{◌≡◌, ◌∙◌, ◌++◌, ℕ, sym, ap, subst, map, List}
 use Rattle.library_steps.specs.State.{State, JobState, begun, new_job}
 use Rattle.joint_state.specs.Sound.{IsSound}
-use Rattle.kept_library.specs.Parts.{LibraryOver}
+use Rattle.library_core.specs.Parts.{LibraryOver}
 use Rattle.job_runner.specs.Places.{BeginsJobs}
 use Rattle.job_runner.proofs.PlaceLemmas.{IsSession-first, on_no_err}
 use Rattle.job_runner.proofs.session.Session.new.Goals as goal

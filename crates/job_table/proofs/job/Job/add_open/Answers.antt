@@ -1,5 +1,5 @@
 use Rattle.std.proofs.Common.{[], ◌∷◌, ◌+◌, ◌++◌, ap, ◌∙◌}
-use Rattle.library_steps.specs.Opens.{with_open}
+use Rattle.lawful_states.specs.Opens.{with_open}
 use Rattle.job_table.specs.Opens.{AreKept, order_by}
 use Rattle.job_table.specs.Table.{RoomyJob}
 use Rattle.job_table.proofs.OpenLemmas.{AreKept-push, kept_job, job-added, same-opens}

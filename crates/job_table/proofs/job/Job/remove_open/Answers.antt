@@ -1,6 +1,6 @@
 use Rattle.std.proofs.Common.{not, filter, ap, ◌∙◌}
 use Rattle.library_model.specs.Named.{same_name}
-use Rattle.library_steps.specs.Opens.{without_open}
+use Rattle.lawful_states.specs.Opens.{without_open}
 use Rattle.job_table.specs.Opens.{AreKept}
 use Rattle.job_table.specs.Table.{RoomyJob}
 use Rattle.job_table.proofs.OpenLemmas.{AreKept-filter, kept_job, job-removed, same-opens}

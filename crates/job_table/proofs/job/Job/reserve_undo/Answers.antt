@@ -1,5 +1,5 @@
 use Rattle.std.proofs.Common.{length, ap, sym, ◌∙◌}
-use Rattle.library_steps.specs.Uses.{changes_in}
+use Rattle.lawful_states.specs.Uses.{changes_in}
 use Rattle.job_table.proofs.OpenLemmas.{same-opens}
 use Rattle.job_table.proofs.job.Job.reserve_undo.Goals as goal
 

@@ -1,6 +1,6 @@
 use Rattle.std.proofs.Common.{◌-◌, refl, ap}
 use Rattle.std.proofs.lemmas.List.Elements.{All-set}
-use Rattle.library_steps.specs.Opens.{with_open}
+use Rattle.lawful_states.specs.Opens.{with_open}
 use Rattle.job_table.specs.Opens.{order_by}
 use Rattle.job_table.specs.Table.{IsWhole}
 use Rattle.job_table.proofs.TableLemmas.{job_is, opened_table, counted_kept}

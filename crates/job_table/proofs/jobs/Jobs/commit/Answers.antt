@@ -1,6 +1,6 @@
 use Rattle.std.proofs.Common.{◌-◌, refl, ap, ◌∙◌}
-use Rattle.library_steps.specs.State.{job_changed, with_opens}
-use Rattle.library_steps.specs.Commitment.{without_cycle, committed_open}
+use Rattle.lawful_states.specs.State.{job_changed, with_opens}
+use Rattle.lawful_states.specs.Commitment.{without_cycle, committed_open}
 use Rattle.job_table.specs.Table.{orders_at}
 use Rattle.job_table.specs.declared.opens.OpenChange.TheVariants.{Committed}
 use Rattle.job_table.proofs.OpenLemmas.{none-asked, opens_after-same}

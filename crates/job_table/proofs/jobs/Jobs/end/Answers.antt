@@ -1,6 +1,6 @@
 use Rattle.std.proofs.Common.{[], ◌-◌, refl, ap, ◌∙◌}
-use Rattle.library_steps.specs.State.{job_changed}
-use Rattle.library_steps.specs.Commitment.{without_cycle}
+use Rattle.lawful_states.specs.State.{job_changed}
+use Rattle.lawful_states.specs.Commitment.{without_cycle}
 use Rattle.job_table.specs.Table.{closed_job, changed_at}
 use Rattle.job_table.proofs.TableLemmas.{running-after, job_changed-twice}
 use Rattle.job_table.proofs.jobs.Jobs.end.Goals as goal

@@ -1,7 +1,7 @@
 use Rattle.std.proofs.Common.{[], ◌-◌, length, refl, ap, ◌∙◌, sym}
 use Rattle.std.proofs.lemmas.List.Elements.{All-set}
-use Rattle.library_steps.specs.Uses.{changes_in}
-use Rattle.library_steps.specs.Commitment.{without_cycle}
+use Rattle.lawful_states.specs.Uses.{changes_in}
+use Rattle.lawful_states.specs.Commitment.{without_cycle}
 use Rattle.job_table.specs.Changes.{bytes_of}
 use Rattle.job_table.specs.Table.{IsWhole}
 use Rattle.job_table.proofs.TableLemmas.{jobs_after, job_is, orders_kept, moves_after, moves_is, counted_end, count_within, bytes_within}

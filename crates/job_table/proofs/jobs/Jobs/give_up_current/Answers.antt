@@ -1,5 +1,5 @@
 use Rattle.std.proofs.Common.{◌==◌, if◌then◌else◌, refl}
-use Rattle.library_steps.specs.ChangeRecord.{without_current}
+use Rattle.lawful_states.specs.ChangeRecord.{without_current}
 use Rattle.job_table.specs.declared.opens.OpenChange.TheVariants.{WithoutCurrent}
 use Rattle.job_table.proofs.OpenLemmas.{none-asked, opens_after-same}
 use Rattle.job_table.proofs.TableLemmas.{changed-each}

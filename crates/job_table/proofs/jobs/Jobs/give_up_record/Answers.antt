@@ -1,5 +1,5 @@
 use Rattle.std.proofs.Common.{refl}
-use Rattle.library_steps.specs.ChangeRecord.{without_record}
+use Rattle.lawful_states.specs.ChangeRecord.{without_record}
 use Rattle.job_table.specs.declared.opens.OpenChange.TheVariants.{WithoutRecord}
 use Rattle.job_table.proofs.OpenLemmas.{none-asked, opens_after-same}
 use Rattle.job_table.proofs.TableLemmas.{changed-each}

@@ -1,6 +1,6 @@
 use Rattle.std.proofs.Common.{◌≡◌, length, subst}
 use Rattle.std.specs.List.{AllZip}
-use Rattle.library_steps.specs.Uses.{changes_in}
+use Rattle.lawful_states.specs.Uses.{changes_in}
 use Rattle.job_table.specs.Opens.{SameOpen}
 use Rattle.job_table.specs.Table.{JobTable}
 use Rattle.job_table.proofs.TableLemmas.{ordered_all, counted_all}

@@ -1,5 +1,5 @@
 use Rattle.std.proofs.Common.{◌==◌, if◌then◌else◌}
-use Rattle.library_steps.specs.Reads.{has_read, row_found}
+use Rattle.lawful_states.specs.Reads.{has_read, row_found}
 use Rattle.job_table.specs.declared.opens.OpenChange.TheVariants.{HasReadRow}
 use Rattle.job_table.proofs.OpenLemmas.{opens_after-row}
 use Rattle.job_table.proofs.TableLemmas.{changed-each}

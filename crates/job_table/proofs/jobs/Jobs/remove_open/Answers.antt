@@ -1,7 +1,7 @@
 use Rattle.std.proofs.Common.{◌-◌, not, filter, refl, ap}
 use Rattle.std.proofs.lemmas.List.Elements.{All-set}
 use Rattle.library_model.specs.Named.{same_name}
-use Rattle.library_steps.specs.Opens.{without_open}
+use Rattle.lawful_states.specs.Opens.{without_open}
 use Rattle.job_table.specs.Table.{IsWhole}
 use Rattle.job_table.proofs.TableLemmas.{table_ordered, counted_kept}
 use Rattle.job_table.proofs.jobs.Jobs.remove_open.Goals as goal

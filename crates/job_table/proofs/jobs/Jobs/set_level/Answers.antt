@@ -1,6 +1,6 @@
 use Rattle.std.proofs.Common.{◌-◌, refl, ap}
 use Rattle.std.proofs.lemmas.List.Elements.{All-set}
-use Rattle.library_steps.specs.Commitment.{with_level}
+use Rattle.lawful_states.specs.Commitment.{with_level}
 use Rattle.job_table.specs.Table.{IsWhole}
 use Rattle.job_table.proofs.TableLemmas.{table_after, counted_kept}
 use Rattle.job_table.proofs.jobs.Jobs.set_level.Goals as goal

@@ -1,5 +1,5 @@
 use Rattle.std.proofs.Common.{◌==◌, if◌then◌else◌}
-use Rattle.library_steps.specs.Reads.{positioned}
+use Rattle.lawful_states.specs.Reads.{positioned}
 use Rattle.job_table.specs.declared.opens.OpenChange.TheVariants.{Positioned}
 use Rattle.job_table.proofs.OpenLemmas.{opens_after-positioned}
 use Rattle.job_table.proofs.TableLemmas.{changed-each}

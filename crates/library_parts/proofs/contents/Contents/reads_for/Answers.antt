@@ -12,7 +12,7 @@ use Rattle.library_steps.specs.Records.{is_file_path}
 use Rattle.library_steps.specs.State.{FileState}
 use Rattle.logical_model.specs.Bases.{FileSpec, PhysicalFile, LogicalFile}
 use Rattle.logical_model.specs.Formats.{has_key}
-use Rattle.logical_paths.specs.Steps.{own_path}
+use Rattle.view_records.specs.Steps.{own_path}
 use Rattle.library_parts.specs.Indexed.{IsView, ReadsRowsBy, path_by}
 use Rattle.library_parts.specs.Parts.{LibraryParts, joined}
 use Rattle.library_parts.specs.Reads.{ReadsFor, ReadsNew}

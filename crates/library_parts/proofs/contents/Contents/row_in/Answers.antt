@@ -5,10 +5,10 @@ use Rattle.file_model.specs.declared.joins.JoinSpec.{JoinSpec}
 use Rattle.file_model.specs.FilePaths.{key_parts}
 use Rattle.job_table.specs.declared.reads.OpenRows.{OpenRows}
 use Rattle.job_table.specs.Opens.{JoinOrder, rows_in}
-use Rattle.join_position.proofs.FindLemmas.{Finds}
-use Rattle.join_rows.specs.declared.rows.Row.{Row}
+use Rattle.job_table.proofs.FindLemmas.{Finds}
+use Rattle.join_records.below.join_rows.specs.declared.rows.Row.{Row}
 use Rattle.key_spec.specs.declared.KeyPart.{KeyPart}
-use Rattle.join_position.specs.RowReads.{IsAskedOf}
+use Rattle.job_table.specs.RowReads.{IsAskedOf}
 use Rattle.lawful_states.proofs.NameLemmas.{some-equal}
 use Rattle.library_steps.specs.LogicalFiles.{bases_in}
 use Rattle.library_steps.specs.State.{memory_of}

@@ -4,7 +4,7 @@ use Rattle.dds_logical.specs.declared.views.LogicalSpec.{LogicalSpec}
 use Rattle.dds_logical.specs.declared.views.LogicalSpec.TheVariants.{Join}
 use Rattle.file_model.specs.declared.joins.Secondary.{Secondary}
 use Rattle.file_model.specs.declared.paths.PathSpec.{PathSpec}
-use Rattle.join_position.specs.RowStand.{JoinStand}
+use Rattle.job_table.specs.RowStand.{JoinStand}
 use Rattle.key_order.specs.declared.widths.TheConstants.{MOST_POSITIONS}
 use Rattle.key_order.specs.KeyFields.{ArePositions}
 use Rattle.key_spec.specs.declared.KeyPart.{KeyPart}

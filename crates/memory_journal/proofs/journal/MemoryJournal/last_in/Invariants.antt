@@ -1,5 +1,5 @@
 use Rattle.std.proofs.Common.{◌≡◌, drop}
-use Rattle.library_steps.specs.Receivers.{last_in}
+use Rattle.lawful_states.specs.Receivers.{last_in}
 use Rattle.memory_journal.proofs.journal.MemoryJournal.last_in.Given as goal
 
 abbrev pub invariant-loop-entry : goal.invariant-loop-entry

@@ -1,7 +1,7 @@
 use Rattle.std.proofs.Common.{◌∙◌, List, ap, sym, subst}
 use Rattle.key_spec.specs.declared.KeyPart.{KeyPart}
 use Rattle.file_model.specs.KeyOrder.{merged_parts}
-use Rattle.key_order.specs.GivenValues.{key_fault}
+use Rattle.access_path.specs.GivenValues.{key_fault}
 use Rattle.open_position.specs.OpenStand.{AreGivenBytes}
 use Rattle.open_position.specs.Reads.{IsStandAt}
 use Rattle.open_position.proofs.StandLemmas.{in-one, given-fit}

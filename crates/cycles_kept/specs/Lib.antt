@@ -1,0 +1,3 @@
+pub use Rattle.joint_state.specs.Agreed
+pub use Rattle.joint_state.specs.Sound
+pub use Rattle.joint_state.specs.Told

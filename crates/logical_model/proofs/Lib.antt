@@ -1,0 +1,1 @@
+pub use Rattle.dds_logical.proofs.CompleteLemmas
