@@ -11,10 +11,10 @@ use Rattle.field_types.specs.declared.kinds.FieldType.{FieldType}
 use Rattle.field_types.specs.declared.values.Dec.{Dec}
 use Rattle.field_types.specs.declared.values.Value.{Value}
 use Rattle.field_types.specs.declared.values.Value.TheVariants.{Chars, Number}
-use Rattle.field_laws.specs.Digits.{signed, is_negative}
-use Rattle.field_laws.specs.FieldTypes.{width}
-use Rattle.field_laws.specs.FieldBytes.{as_held, fault_of, filled, units_at}
-use Rattle.field_laws.proofs.ScaleLemmas.{unsigned_abs-signed}
+use Rattle.field_values.specs.Digits.{signed, is_negative}
+use Rattle.field_values.specs.FieldTypes.{width}
+use Rattle.field_values.specs.FieldBytes.{as_held, fault_of, filled, units_at}
+use Rattle.field_values.proofs.ScaleLemmas.{unsigned_abs-signed}
 use Rattle.field_laws.proofs.AcceptedLemmas.{held-number}
 use Rattle.decimal_order.specs.DecimalOrder.{compare_numbers, is_below_zero}
 use Rattle.decimal_order.proofs.OrderLemmas.{some-power, both_from_zero, both_below_zero, compare_numbers-total}

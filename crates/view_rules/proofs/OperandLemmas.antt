@@ -10,9 +10,9 @@ use Rattle.field_types.specs.declared.values.Value.{Value}
 use Rattle.field_types.specs.declared.values.Value.TheVariants.{Chars, Number}
 use Rattle.field_types.specs.declared.faults.ValueFault.{ValueFault}
 use Rattle.field_types.specs.declared.faults.ValueFault.TheVariants.{WrongKind, TooWide, BadDate}
-use Rattle.field_laws.specs.FieldTypes.{width, is_numeric, is_moment_kind}
-use Rattle.field_laws.specs.FieldBytes.{held, held_as, written, filled, fault_of, number_fault}
-use Rattle.field_laws.specs.Moments.{is_moment}
+use Rattle.field_values.specs.FieldTypes.{width, is_numeric, is_moment_kind}
+use Rattle.field_values.specs.FieldBytes.{held, held_as, written, filled, fault_of, number_fault}
+use Rattle.field_values.specs.Moments.{is_moment}
 use Rattle.file_model.specs.declared.views.FieldSource.{FieldSource}
 use Rattle.file_model.specs.declared.views.FieldSource.TheVariants.{Concatenated}
 use Rattle.file_model.specs.declared.views.Piece.{Piece}

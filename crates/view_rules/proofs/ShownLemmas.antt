@@ -10,9 +10,9 @@ use Rattle.field_types.specs.declared.faults.ValueFault.{ValueFault}
 use Rattle.field_types.specs.declared.faults.ValueFault.TheVariants.{ReadOnlyField}
 use Rattle.field_types.specs.declared.faults.RecordFault.{RecordFault}
 use Rattle.field_types.specs.declared.faults.RecordFault.TheVariants.{BadField, Count}
-use Rattle.field_laws.specs.FieldTypes.{IsFieldType, width}
-use Rattle.field_laws.specs.FieldBytes.{held, held_as, written, as_held, fault_of, filled}
-use Rattle.field_laws.specs.FirstBad.{part}
+use Rattle.field_values.specs.FieldTypes.{IsFieldType, width}
+use Rattle.field_values.specs.FieldBytes.{held, held_as, written, as_held, fault_of, filled}
+use Rattle.field_values.specs.FirstBad.{part}
 use Rattle.field_laws.proofs.WrittenLemmas.{stands-written}
 use Rattle.field_laws.proofs.AcceptedLemmas.{held-kept}
 use Rattle.file_model.below.record_fmt.specs.declared.formats.Field.{Field}

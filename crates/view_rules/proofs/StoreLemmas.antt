@@ -7,7 +7,7 @@ use Rattle.field_types.specs.declared.values.Value.{Value}
 use Rattle.field_types.specs.declared.faults.ValueFault.{ValueFault}
 use Rattle.field_types.specs.declared.faults.RecordFault.{RecordFault}
 use Rattle.field_types.specs.declared.faults.RecordFault.TheVariants.{BadField}
-use Rattle.field_laws.specs.FieldBytes.{filled}
+use Rattle.field_values.specs.FieldBytes.{filled}
 use Rattle.file_model.below.record_fmt.specs.declared.formats.Field.{Field}
 use Rattle.file_model.specs.declared.views.Piece.{Piece}
 use Rattle.file_model.specs.declared.views.LogicalField.{LogicalField}

@@ -8,8 +8,8 @@ use Rattle.std.specs.declared.cmp.Ordering.{Ordering}
 use Rattle.std.specs.declared.cmp.Ordering.TheVariants.{Less, Equal, Greater}
 use Rattle.std.specs.Ordering.{nat_cmp, ordering_then, ordering_index}
 use Rattle.std.specs.Cmp.Lexicographic.{slice_cmp}
-use Rattle.field_laws.specs.FieldBytes.{filled}
-use Rattle.field_laws.proofs.MomentLemmas.{part-length}
+use Rattle.field_values.specs.FieldBytes.{filled}
+use Rattle.field_values.proofs.MomentLemmas.{part-length}
 use Rattle.file_model.specs.declared.views.Piece.{Piece}
 use Rattle.file_model.specs.Views.{piece_of, pieces_length}
 use Rattle.view_rules.specs.Shown.{IsWithin}

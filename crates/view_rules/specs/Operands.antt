@@ -3,7 +3,7 @@ use Rattle.std.specs.Prelude.{ℕ, ◌≤◌, List, length}
 use Rattle.std.specs.List.{flat_map, AllByRecursion}
 use Rattle.field_types.specs.declared.values.Value.{Value}
 use Rattle.field_types.specs.declared.values.Value.TheVariants as values
-use Rattle.field_laws.specs.FieldBytes.{filled}
+use Rattle.field_values.specs.FieldBytes.{filled}
 use Rattle.file_model.specs.Views.{piece_of}
 use Rattle.view_rules.specs.Shown.{IsWithin}
 use Rattle.view_rules.specs.declared.texts.TextBytes.{TextBytes}

@@ -5,9 +5,9 @@ use Rattle.std.specs.List.{AllByRecursion}
 use Rattle.field_types.specs.declared.kinds.FieldType.{FieldType}
 use Rattle.field_types.specs.declared.kinds.Kind.TheVariants.{Char}
 use Rattle.field_types.specs.declared.values.Value.{Value}
-use Rattle.field_laws.specs.FieldTypes.{IsFieldType, width}
-use Rattle.field_laws.specs.FieldBytes.{held, fault_of}
-use Rattle.field_laws.specs.FirstBad.{part}
+use Rattle.field_values.specs.FieldTypes.{IsFieldType, width}
+use Rattle.field_values.specs.FieldBytes.{held, fault_of}
+use Rattle.field_values.specs.FirstBad.{part}
 use Rattle.file_model.specs.declared.views.Piece.{Piece}
 use Rattle.file_model.specs.declared.views.FieldSource.{FieldSource}
 use Rattle.file_model.specs.declared.views.FieldSource.TheVariants.{Copied, Converted, Concatenated, Substring}

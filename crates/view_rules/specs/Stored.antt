@@ -7,8 +7,8 @@ use Rattle.field_types.specs.declared.values.Value.{Value}
 use Rattle.field_types.specs.declared.faults.ValueFault.{ValueFault}
 use Rattle.field_types.specs.declared.faults.RecordFault.{RecordFault}
 use Rattle.field_types.specs.declared.faults.RecordFault.TheVariants.{BadField}
-use Rattle.field_laws.specs.FieldTypes.{IsFieldType, width}
-use Rattle.field_laws.specs.FieldBytes.{fault_of}
+use Rattle.field_values.specs.FieldTypes.{IsFieldType, width}
+use Rattle.field_values.specs.FieldBytes.{fault_of}
 use Rattle.file_model.below.record_fmt.specs.declared.formats.Field.{Field}
 use Rattle.file_model.specs.declared.views.Piece.{Piece}
 use Rattle.file_model.specs.declared.views.FieldSource.{FieldSource}

@@ -1,7 +1,7 @@
 //! Laws of records that values make which are given through a logical format. Nothing runs here.
 ghost use Rattle.std.specs.Prelude.{◌≡◌, ℕ, List, Option, Some, true};
 ghost use Rattle.field_types.specs.declared.values.Value.{Value};
-ghost use Rattle.field_laws.specs.FieldBytes.{as_held};
+ghost use Rattle.field_values.specs.FieldBytes.{as_held};
 ghost use Rattle.file_model.below.record_fmt.specs.declared.formats.Field.{Field};
 ghost use Rattle.file_model.specs.declared.rules.Relation.TheVariants.{Equals};
 ghost use Rattle.file_model.specs.declared.views.LogicalField.{LogicalField};

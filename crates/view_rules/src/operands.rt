@@ -1,8 +1,8 @@
 //! What a test compares: the value of a field of the record, or a literal.
 ghost use Rattle.std.specs.Prelude.{◌≡◌, ◌≤◌, Some, None, true, is_some, length};
 ghost use Rattle.field_types.specs.declared.values.Value.{Value};
-ghost use Rattle.field_laws.specs.FieldTypes.{IsFieldType, width};
-ghost use Rattle.field_laws.specs.FieldBytes.{held, written, filled};
+ghost use Rattle.field_values.specs.FieldTypes.{IsFieldType, width};
+ghost use Rattle.field_values.specs.FieldBytes.{held, written, filled};
 ghost use Rattle.file_model.specs.Views.{field_value, written_as};
 ghost use Rattle.file_model.specs.Selection.{compare_filled};
 ghost use Rattle.view_rules.specs.Shown.{HasValue, IsTaken};
@@ -11,9 +11,9 @@ ghost use Rattle.view_rules.specs.Operands.{bytes_of, value_of, HasBytes, IsOper
 use crate::sources;
 use crate::texts::{self, ShownText, TextBytes};
 use decimal_order::order;
-use field_laws::field_values::fields;
 use field_types::kinds::{FieldType, Kind};
 use field_types::values::{Dec, Value};
+use field_values::fields;
 use file_model::views::{FieldSource, ViewField};
 use std::cmp::Ordering;
 

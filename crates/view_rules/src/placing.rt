@@ -2,14 +2,14 @@
 ghost use Rattle.std.specs.Prelude.{◌≡◌, ◌+◌, ◌≤◌, None, length};
 ghost use Rattle.std.specs.List.{AllByRecursion};
 ghost use Rattle.field_types.specs.declared.values.Value.{Value};
-ghost use Rattle.field_laws.specs.FieldTypes.{IsFieldType, width};
-ghost use Rattle.field_laws.specs.FieldBytes.{written, filled, fault_of};
+ghost use Rattle.field_values.specs.FieldTypes.{IsFieldType, width};
+ghost use Rattle.field_values.specs.FieldBytes.{written, filled, fault_of};
 ghost use Rattle.file_model.specs.Views.{put_at, put_pieces, put_value, pieces_length, stored_type, character};
 ghost use Rattle.view_rules.specs.Stored.{HasPlace, EndsWithin};
 
-use field_laws::field_values::fields::{self, BLANK};
 use field_types::kinds::FieldType;
 use field_types::values::Value;
+use field_values::fields::{self, BLANK};
 use file_model::views::{FieldSource, Piece, ViewField};
 
 /// Puts a value that fits into its place; one of a substring is stored nowhere.

@@ -1,14 +1,14 @@
 //! Why a logical field refuses a value. No memory is taken.
 ghost use Rattle.std.specs.Prelude.{◌≡◌, ◌+◌, ◌<◌, ℕ, length};
 ghost use Rattle.std.specs.List.{AllByRecursion};
-ghost use Rattle.field_laws.specs.FieldTypes.{IsFieldType};
+ghost use Rattle.field_values.specs.FieldTypes.{IsFieldType};
 ghost use Rattle.file_model.specs.Views.{stored_type, character, pieces_length, refusal};
 ghost use Rattle.view_rules.specs.Stored.{IsAllowed, refused_by, first_refused};
 
-use field_laws::field_values::fields;
 use field_types::faults::{RecordFault, ValueFault};
 use field_types::kinds::{FieldType, Kind};
 use field_types::values::Value;
+use field_values::fields;
 use file_model::views::{FieldSource, LogicalField, Piece, ViewField};
 
 /// The first field that refuses its value.

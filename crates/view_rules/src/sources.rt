@@ -1,15 +1,15 @@
 //! Bytes and numbers under the fields of a view.
 ghost use Rattle.std.specs.Prelude.{◌≡◌, ◌+◌, ◌≤◌, None, Some, true, is_some, length};
 ghost use Rattle.field_types.specs.declared.values.Value.{Value};
-ghost use Rattle.field_laws.specs.FieldTypes.{IsFieldType, width, is_numeric};
-ghost use Rattle.field_laws.specs.FieldBytes.{held, written, fault_of};
-ghost use Rattle.field_laws.specs.FirstBad.{part};
+ghost use Rattle.field_values.specs.FieldTypes.{IsFieldType, width, is_numeric};
+ghost use Rattle.field_values.specs.FieldBytes.{held, written, fault_of};
+ghost use Rattle.field_values.specs.FirstBad.{part};
 ghost use Rattle.file_model.specs.Views.{piece_of};
 ghost use Rattle.view_rules.specs.Shown.{IsWithin};
 
-use field_laws::field_values::fields;
 use field_types::kinds::FieldType;
 use field_types::values::{Dec, Value};
+use field_values::fields;
 use file_model::views::Piece;
 
 /// The most bytes of a number's field.

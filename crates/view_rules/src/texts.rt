@@ -8,7 +8,7 @@ ghost use Rattle.view_rules.specs.Shown.{IsWithin};
 ghost use Rattle.view_rules.specs.Operands.{bytes_of, text_of, HasBytes, IsText};
 ghost use Rattle.field_types.specs.declared.values.Value.{Value};
 
-use field_laws::field_values::fields::BLANK;
+use field_values::fields::BLANK;
 use file_model::views::Piece;
 use std::cmp::Ordering;
 

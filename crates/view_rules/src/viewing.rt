@@ -3,8 +3,8 @@ ghost use Rattle.std.specs.Prelude.{◌≡◌, ◌≤◌, ◌++◌, None, Some, 
 ghost use Rattle.std.specs.Option.{option_copied};
 ghost use Rattle.std.specs.List.{AllByRecursion, flat_map};
 ghost use Rattle.field_types.specs.declared.values.Value.{Value};
-ghost use Rattle.field_laws.specs.FieldTypes.{IsFieldType, width, is_numeric};
-ghost use Rattle.field_laws.specs.FieldBytes.{held, written, filled, fault_of};
+ghost use Rattle.field_values.specs.FieldTypes.{IsFieldType, width, is_numeric};
+ghost use Rattle.field_values.specs.FieldBytes.{held, written, filled, fault_of};
 ghost use Rattle.file_model.specs.Views.{field_image, field_value, view_of, written_as, piece_of};
 ghost use Rattle.view_rules.specs.Shown.{HasShown, HasValue, IsWithin, IsTaken};
 ghost use Rattle.view_rules.specs.Operands.{bytes_of, text_of, value_of, HasBytes, IsOperand, IsText};
@@ -12,10 +12,10 @@ ghost use Rattle.view_rules.specs.Operands.{bytes_of, text_of, value_of, HasByte
 use crate::operands::{self, Operand};
 use crate::sources;
 use crate::texts::{ShownText, TextBytes};
-use field_laws::field_values::fields::{self, BLANK};
 use field_types::kinds::FieldType;
 use field_types::texts::Text;
 use field_types::values::{Dec, Value};
+use field_values::fields::{self, BLANK};
 use file_model::views::{FieldSource, Piece, ViewField};
 use std::alloc::{AllocError, Global};
 
@@ -110,7 +110,7 @@ fn show_converted(
 }
 
 /// A value that fits, as a field of the type has it.
-#[tactic(auto, unfolding(field_laws::specs::FieldBytes::written))]
+#[tactic(auto, unfolding(field_values::specs::FieldBytes::written))]
 pub(crate) fn show_value(
     ty: &FieldType,
     value: &Value,

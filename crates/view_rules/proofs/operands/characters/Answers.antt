@@ -1,6 +1,6 @@
 use Rattle.std.proofs.Common.{◌∙◌, ap, sym, Some}
 use Rattle.field_types.specs.declared.values.Value.TheVariants.{Chars}
-use Rattle.field_laws.specs.FieldBytes.{filled}
+use Rattle.field_values.specs.FieldBytes.{filled}
 use Rattle.view_rules.specs.Operands.{bytes_of}
 use Rattle.view_rules.proofs.OperandLemmas.{characters-held}
 use Rattle.view_rules.proofs.operands.characters.Goals as goal

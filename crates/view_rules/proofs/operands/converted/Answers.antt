@@ -1,6 +1,6 @@
 use Rattle.std.proofs.Common.{◌∙◌, ◌≤◌, ap, sym, subst, Some, length}
 use Rattle.field_types.specs.declared.values.Value.TheVariants.{Chars}
-use Rattle.field_laws.specs.FieldBytes.{filled}
+use Rattle.field_values.specs.FieldBytes.{filled}
 use Rattle.view_rules.proofs.OperandLemmas.{text-shown, number-shown}
 use Rattle.view_rules.proofs.operands.converted.Goals as goal
 

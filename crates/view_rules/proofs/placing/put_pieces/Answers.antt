@@ -1,6 +1,6 @@
 use Rattle.std.proofs.Common.{◌≡◌, ◌∙◌, ℕ, List, ap, sym, subst, None, false, true}
 use Rattle.field_types.specs.declared.values.Value.{Value}
-use Rattle.field_laws.specs.FieldBytes.{fault_of, written, filled}
+use Rattle.field_values.specs.FieldBytes.{fault_of, written, filled}
 use Rattle.file_model.specs.Views.{character, pieces_length, put_pieces}
 use Rattle.view_rules.proofs.OperandLemmas.{number-numeric, text-fits, written-text}
 use Rattle.view_rules.proofs.placing.put_pieces.Goals as goal

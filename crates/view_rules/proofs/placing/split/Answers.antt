@@ -1,6 +1,6 @@
 use Rattle.std.proofs.Common.{◌≡◌, ◌∙◌, ◌+◌, ◌∷◌, ℕ, List, ap, sym, add-one, length, take, drop, get_or}
 use Rattle.std.proofs.Math.Seq.{drop-cons}
-use Rattle.field_laws.specs.FieldBytes.{filled}
+use Rattle.field_values.specs.FieldBytes.{filled}
 use Rattle.file_model.specs.declared.views.Piece.{Piece}
 use Rattle.file_model.specs.Views.{put_pieces, pieces_length}
 use Rattle.view_rules.proofs.StoreLemmas.{IsSplit, split-turn}

@@ -1,6 +1,6 @@
 use Rattle.std.proofs.Common.{◌≡◌, ◌≤◌, drop, length}
 use Rattle.std.specs.List.{AllByRecursion}
-use Rattle.field_laws.specs.FieldBytes.{filled}
+use Rattle.field_values.specs.FieldBytes.{filled}
 use Rattle.file_model.specs.Views.{pieces_length, put_pieces}
 use Rattle.view_rules.specs.Stored.{EndsWithin}
 use Rattle.view_rules.proofs.placing.split.Given as goal

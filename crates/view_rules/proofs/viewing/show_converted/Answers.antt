@@ -1,5 +1,5 @@
 use Rattle.std.proofs.Common.{◌≡◌, ◌++◌, ◌∙◌, ap, sym, subst, OnOk}
-use Rattle.field_laws.specs.FieldBytes.{filled}
+use Rattle.field_values.specs.FieldBytes.{filled}
 use Rattle.view_rules.proofs.OperandLemmas.{text-copied, number-shown}
 use Rattle.view_rules.proofs.viewing.show_converted.Goals as goal
 

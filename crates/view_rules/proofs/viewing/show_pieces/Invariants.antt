@@ -1,6 +1,6 @@
 use Rattle.std.proofs.Common.{◌≡◌, ◌++◌, drop}
 use Rattle.std.specs.List.{AllByRecursion, flat_map}
-use Rattle.field_laws.specs.FieldBytes.{filled}
+use Rattle.field_values.specs.FieldBytes.{filled}
 use Rattle.file_model.specs.Views.{piece_of}
 use Rattle.view_rules.specs.Shown.{IsWithin}
 use Rattle.view_rules.proofs.viewing.show_pieces.Given as goal

@@ -1,7 +1,7 @@
 use Rattle.std.proofs.Common.{◌≡◌, None, length, subst, rules}
 use Rattle.field_types.specs.declared.values.Value.{Value}
-use Rattle.field_laws.specs.FieldTypes.{width}
-use Rattle.field_laws.specs.FieldBytes.{fault_of, written}
+use Rattle.field_values.specs.FieldTypes.{width}
+use Rattle.field_values.specs.FieldBytes.{fault_of, written}
 use Rattle.view_rules.proofs.OperandLemmas.{number-numeric, text-width}
 use Rattle.view_rules.proofs.viewing.show_value.Goals as goal
 
