@@ -7,7 +7,7 @@ ghost use Rattle.library_steps.specs.Commitment.{commit, rollback};
 ghost use Rattle.library_steps.specs.EndJob.{end_job};
 ghost use Rattle.library_parts.specs.Answers.{Answers};
 ghost use Rattle.library_parts.specs.Standing.{StandAsMade};
-ghost use Rattle.library_parts.specs.declared.stop.Stop.TheVariants.{NoMemory};
+ghost use Rattle.library_parts.below.parts_model.specs.declared.stop.Stop.TheVariants.{NoMemory};
 
 use library_model::replies::Reply;
 use library_parts::{Contents, Stop};

@@ -5,7 +5,7 @@ ghost use Rattle.library_steps.specs.State.{memory_of, job_at, job_of};
 ghost use Rattle.library_steps.specs.History.{is_running};
 ghost use Rattle.library_steps.specs.Commitment.{start_plan, start_commitment, end_plan, end_commitment};
 ghost use Rattle.library_parts.specs.Answers.{Allows, Answers};
-ghost use Rattle.library_parts.specs.declared.stop.Stop.TheVariants.{NoMemory};
+ghost use Rattle.library_parts.below.parts_model.specs.declared.stop.Stop.TheVariants.{NoMemory};
 ghost use Rattle.commitment_requests.specs.Started.{started};
 
 use entry_codec::{Draft, EntryKind};

@@ -27,8 +27,8 @@ use Rattle.library_parts.specs.Answers.{Allows, Shows}
 use Rattle.library_parts.specs.Finds.{OpensBy, OpensMembers}
 use Rattle.library_parts.specs.Indexed.{IsReadSo}
 use Rattle.library_parts.specs.Reads.{MayReadSo}
-use Rattle.library_parts.specs.declared.stop.Stop.{Stop}
-use Rattle.library_parts.specs.declared.stop.Stop.TheVariants.{NoMemory, Refused}
+use Rattle.library_parts.below.parts_model.specs.declared.stop.Stop.{Stop}
+use Rattle.library_parts.below.parts_model.specs.declared.stop.Stop.TheVariants.{NoMemory, Refused}
 use Rattle.file_requests.specs.Opens.{GivesMembers, file_plan, view_opens}
 use Rattle.library_steps.specs.WriteRecord.{is_input}
 

@@ -11,7 +11,7 @@ use Rattle.library_steps.specs.CreatePhysicalFile.{NewFile, new_file}
 use Rattle.library_steps.specs.Refusals.{found, named_or_refused}
 use Rattle.library_parts.specs.Answers.{Shows}
 use Rattle.library_parts.specs.Files.{IsNewFile}
-use Rattle.library_parts.specs.declared.stop.Stop.{Stop}
+use Rattle.library_parts.below.parts_model.specs.declared.stop.Stop.{Stop}
 
 only-physical : (spec : FileSpec) (name : List ℕ) (f file : FileState) → named_or_refused name (if_physical spec f) ≡ Ok file → Some f ≡ Some file
 only-physical (PhysicalFile spec) name f file is = cc

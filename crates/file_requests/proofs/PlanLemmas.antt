@@ -11,8 +11,8 @@ use Rattle.library_steps.specs.Uses.{user_of, unused}
 use Rattle.library_steps.specs.MemberCommands.{empty_plan, member_added}
 use Rattle.library_steps.specs.Journaling.{start_plan, end_plan}
 use Rattle.library_parts.specs.Answers.{Gives}
-use Rattle.library_parts.specs.declared.stop.Stop.{Stop}
-use Rattle.library_parts.specs.declared.stop.Stop.TheVariants.{NoMemory, Refused}
+use Rattle.library_parts.below.parts_model.specs.declared.stop.Stop.{Stop}
+use Rattle.library_parts.below.parts_model.specs.declared.stop.Stop.TheVariants.{NoMemory, Refused}
 
 -- three refusals and a test more, or the test behind the three
 then : (left : Result Bool Reply) (found : Result FoundMember Reply) (user : MemberStatus → Result Bool Reply) (test : MemberStatus → Result Bool Reply)

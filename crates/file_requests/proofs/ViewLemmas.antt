@@ -40,8 +40,8 @@ use Rattle.library_steps.specs.SlotChange.{status_among}
 use Rattle.library_steps.specs.Uses.{changer_of_any, unused}
 use Rattle.library_parts.specs.Answers.{Allows, Answers, Gives, MayAllow}
 use Rattle.library_parts.specs.Files.{IsNewView}
-use Rattle.library_parts.specs.declared.stop.Stop.{Stop}
-use Rattle.library_parts.specs.declared.stop.Stop.TheVariants.{NoMemory, Refused}
+use Rattle.library_parts.below.parts_model.specs.declared.stop.Stop.{Stop}
+use Rattle.library_parts.below.parts_model.specs.declared.stop.Stop.TheVariants.{NoMemory, Refused}
 use Rattle.library_parts.proofs.DepositLemmas.{Answers-left}
 use Rattle.file_requests.specs.Effects.{Deposits}
 use Rattle.file_requests.specs.Views.{PlansView, allowed_by, done, keys_differ, may_stand, new_view, view_draft, view_named, view_of, view_plan}

@@ -11,8 +11,8 @@ use Rattle.library_model.specs.Named.{same_name}
 use Rattle.library_steps.specs.State.{Memory, FileState, file_named, job_of, open_named}
 use Rattle.library_steps.specs.Refusals.{◌>>=◌, refuse_if, named_or_refused}
 use Rattle.library_steps.specs.Opens.{may_commit_all, may_not}
-use Rattle.library_parts.specs.declared.stop.Stop.{Stop}
-use Rattle.library_parts.specs.declared.stop.Stop.TheVariants.{NoMemory, Refused}
+use Rattle.library_parts.below.parts_model.specs.declared.stop.Stop.{Stop}
+use Rattle.library_parts.below.parts_model.specs.declared.stop.Stop.TheVariants.{NoMemory, Refused}
 use Rattle.dds_logical.specs.declared.views.LogicalSpec.{LogicalSpec}
 
 -- the file, where the job may have an open more under this name

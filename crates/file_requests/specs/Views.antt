@@ -22,8 +22,8 @@ use Rattle.library_steps.specs.Drafts.{author_of, library_draft}
 use Rattle.library_steps.specs.LogicalFiles.{bases_of}
 use Rattle.library_steps.specs.Refusals.{◌>>=◌, refuse_if, refuse_with, named_or_refused, sequences_left}
 use Rattle.library_steps.specs.Uses.{changer_of_any, unused}
-use Rattle.library_parts.specs.declared.stop.Stop.{Stop}
-use Rattle.library_parts.specs.declared.stop.Stop.TheVariants.{NoMemory, Refused}
+use Rattle.library_parts.below.parts_model.specs.declared.stop.Stop.{Stop}
+use Rattle.library_parts.below.parts_model.specs.declared.stop.Stop.TheVariants.{NoMemory, Refused}
 
 -- ---- the refusals in their order
 

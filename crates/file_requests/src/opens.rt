@@ -16,7 +16,7 @@ ghost use Rattle.library_parts.specs.Answers.{Allows, Answers, Gives, Shows};
 ghost use Rattle.library_parts.specs.Finds.{OpensBy, OpensMembers};
 ghost use Rattle.library_parts.specs.Indexed.{IsReadSo};
 ghost use Rattle.library_parts.specs.Reads.{MayReadSo};
-ghost use Rattle.library_parts.specs.declared.stop.Stop.TheVariants.{NoMemory};
+ghost use Rattle.library_parts.below.parts_model.specs.declared.stop.Stop.TheVariants.{NoMemory};
 ghost use Rattle.file_requests.specs.Opens.{GivesMembers, file_plan, view_opens};
 ghost use Rattle.library_steps.specs.WriteRecord.{is_input};
 

@@ -24,8 +24,8 @@ use Rattle.library_steps.specs.Change.{Change}
 use Rattle.library_steps.specs.History.{is_running}
 use Rattle.library_steps.specs.Step.{change, step}
 use Rattle.commitment_requests.specs.Answers.{Answers}
-use Rattle.commitment_requests.below.library_parts.specs.declared.stop.Stop.{Stop}
-use Rattle.commitment_requests.below.library_parts.specs.declared.stop.Stop.TheVariants as stop
+use Rattle.commitment_requests.below.parts_model.specs.declared.stop.Stop.{Stop}
+use Rattle.commitment_requests.below.parts_model.specs.declared.stop.Stop.TheVariants as stop
 use Rattle.journal_fronts.specs.Deposits.{AreShort, switches}
 use Rattle.forced_calls.proofs.ForcedLemmas.{asked}
 use Rattle.joint_state.specs.Sound.{Does, IsSound, after}

@@ -31,8 +31,8 @@ use Rattle.library_steps.specs.Receivers.{attach_change, attach_plan}
 use Rattle.library_steps.specs.Step.{change, step}
 use Rattle.library_steps.specs.declared.limits.TheConstants.{LAST_RECEIVER, LAST_SEQUENCE}
 use Rattle.commitment_requests.specs.Answers.{Answers, Gives, reply_of}
-use Rattle.commitment_requests.below.library_parts.specs.declared.stop.Stop.{Stop}
-use Rattle.commitment_requests.below.library_parts.specs.declared.stop.Stop.TheVariants as stop
+use Rattle.commitment_requests.below.parts_model.specs.declared.stop.Stop.{Stop}
+use Rattle.commitment_requests.below.parts_model.specs.declared.stop.Stop.TheVariants as stop
 use Rattle.joint_state.specs.Sound.{Does, IsSound, after}
 use Rattle.sound_histories.proofs.HistoryLemmas.{AnswersStaySound}
 use Rattle.kept_library.specs.Journaled.{IsBookOf, IsJournaled}

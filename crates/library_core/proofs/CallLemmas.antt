@@ -15,8 +15,8 @@ use Rattle.library_steps.specs.Step.{change, step, MayAnswer}
 use Rattle.joint_state.specs.Sound.{IsSound}
 use Rattle.sound_histories.proofs.HistoryLemmas.{AnswersStaySound}
 use Rattle.commitment_requests.specs.Answers.{Answers, reply_of}
-use Rattle.commitment_requests.below.library_parts.specs.declared.stop.Stop.{Stop}
-use Rattle.commitment_requests.below.library_parts.specs.declared.stop.Stop.TheVariants as stop
+use Rattle.commitment_requests.below.parts_model.specs.declared.stop.Stop.{Stop}
+use Rattle.commitment_requests.below.parts_model.specs.declared.stop.Stop.TheVariants as stop
 use Rattle.library_core.specs.Running.{runs_after}
 use Rattle.library_core.proofs.RunLemmas.{runs-on}
 use Rattle.library_core.proofs.StepLemmas.{Leaves, change-leaves}

@@ -18,7 +18,7 @@ use Rattle.library_steps.specs.State.{State, job_at}
 use Rattle.library_steps.specs.History.{is_running}
 use Rattle.library_steps.specs.Step.{MayAnswer}
 use Rattle.commitment_requests.specs.Answers.{reply_of}
-use Rattle.commitment_requests.below.library_parts.specs.declared.stop.Stop.{Stop}
+use Rattle.commitment_requests.below.parts_model.specs.declared.stop.Stop.{Stop}
 use Rattle.block_places.specs.Dues.{has_entries}
 use Rattle.forced_calls.specs.Forced.{is_forced}
 use Rattle.joint_state.specs.Sound.{IsSound}

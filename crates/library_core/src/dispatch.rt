@@ -10,7 +10,7 @@ ghost use Rattle.library_steps.specs.Uses.{changes_in};
 ghost use Rattle.joint_state.specs.Views.{HaveDefaults};
 ghost use Rattle.commitment_requests.specs.Answers.{Answers};
 ghost use Rattle.commitment_requests.specs.Standing.{StandAsMade};
-ghost use Rattle.commitment_requests.below.library_parts.specs.declared.stop.Stop.TheVariants.{NoMemory};
+ghost use Rattle.commitment_requests.below.parts_model.specs.declared.stop.Stop.TheVariants.{NoMemory};
 
 use commitment_requests::library_parts::{Contents, Stop};
 use commitment_requests::{commit, end_commitment, end_job, rollback, start_commitment};

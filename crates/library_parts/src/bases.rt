@@ -4,7 +4,7 @@ ghost use Rattle.library_steps.specs.LogicalFiles.{bases_in};
 ghost use Rattle.logical_model.specs.Bases.{LogicalFile};
 ghost use Rattle.logical_model.specs.FilePaths.{logical_paths};
 ghost use Rattle.view_records.specs.Steps.{own_path};
-ghost use Rattle.library_parts.specs.Indexed.{rows_paths};
+ghost use Rattle.parts_model.specs.Indexed.{rows_paths};
 
 use crate::contents::Contents;
 use dds_logical::LogicalSpec;

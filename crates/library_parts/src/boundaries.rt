@@ -15,14 +15,14 @@ ghost use Rattle.library_steps.specs.Uses.{changes_in};
 ghost use Rattle.library_steps.specs.Commitment.{commit_change, rollback_change};
 ghost use Rattle.library_steps.specs.Drafts.{cycle_draft, library_draft};
 ghost use Rattle.library_steps.specs.EndJob.{end_change};
-ghost use Rattle.library_parts.specs.Answers.{Answers};
-ghost use Rattle.library_parts.specs.Boundaries.{author, cycle_end, definition_end, ended, roll_drafts, told};
+ghost use Rattle.parts_model.specs.Answers.{Answers};
+ghost use Rattle.parts_model.specs.Boundaries.{author, cycle_end, definition_end, ended, roll_drafts, told};
 ghost use Rattle.lawful_states.specs.Back.{member_back, members_back};
-ghost use Rattle.library_parts.specs.Due.{cycle_due};
-ghost use Rattle.library_parts.specs.Indexed.{HasBytes};
+ghost use Rattle.parts_model.specs.Due.{cycle_due};
+ghost use Rattle.parts_model.specs.Indexed.{HasBytes};
 ghost use Rattle.lawful_states.specs.Lawful.{FitsPlace};
-ghost use Rattle.library_parts.specs.Standing.{StandAsMade};
-ghost use Rattle.library_parts.specs.TakingBack.{CanTakeBack, LeadsToIndexed};
+ghost use Rattle.parts_model.specs.Standing.{StandAsMade};
+ghost use Rattle.parts_model.specs.TakingBack.{CanTakeBack, LeadsToIndexed};
 
 use crate::contents::Contents;
 use crate::cycles::level_due;
@@ -34,17 +34,8 @@ use job_table::{Undo, UndoParts, Undos};
 use member_slots::members::Members;
 use member_slots::slot::Slot;
 use memory_journal::MemoryJournal;
+use parts_model::Origin;
 use path_set::set::PathSet;
-
-/// The record whose change is taken back, the commit cycle of the change, and who takes it back when.
-#[derive(Drop)]
-pub struct Origin {
-    pub job: Name,
-    pub moment: u64,
-    pub cycle: u64,
-    pub member: u32,
-    pub rrn: u32,
-}
 
 impl Contents {
     /// COMMIT: the end of the job's commit cycle is deposited, where one is open. Its boundary locks and the locks of its opens under

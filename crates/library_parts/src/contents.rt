@@ -3,7 +3,7 @@
 ghost use Rattle.std.specs.Prelude.{◌≡◌, ◌+◌, ◌<◌, [], ◌∷◌, ◌++◌, length, IfOk, IsTrue, OnOk, OnErr};
 ghost use Rattle.library_steps.specs.History.{is_running};
 ghost use Rattle.library_steps.specs.State.{empty_library, job_at, job_of, memory_of, new_job};
-ghost use Rattle.library_parts.specs.Indexed.{ArePaths};
+ghost use Rattle.parts_model.specs.Indexed.{ArePaths};
 ghost use Rattle.lawful_states.specs.Lawful.{IsLibrary};
 
 use field_types::names::Name;
@@ -35,10 +35,10 @@ pub struct Contents {
 }
 
 impl Model for Contents {
-    ghost use Rattle.library_parts.specs.Parts.{LibraryParts, joined, state_of};
+    ghost use Rattle.parts_model.specs.Parts.{LibraryParts, joined, state_of};
     ghost use Rattle.lawful_states.specs.Lawful.{AreOne};
-    ghost use Rattle.library_parts.specs.Due.{HasDue};
-    ghost use Rattle.library_parts.specs.Indexed.{IsIndexed};
+    ghost use Rattle.parts_model.specs.Due.{HasDue};
+    ghost use Rattle.parts_model.specs.Indexed.{IsIndexed};
 
     ghost Value = { LibraryParts };
 

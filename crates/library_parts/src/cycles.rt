@@ -6,11 +6,11 @@ ghost use Rattle.library_steps.specs.State.{memory_of, job_at, job_of, with_job,
 ghost use Rattle.library_steps.specs.History.{is_running};
 ghost use Rattle.library_steps.specs.Commitment.{with_level, has_committed_open};
 ghost use Rattle.library_steps.specs.SlotChange.{change_bytes, cycle_for, noted, open_bytes, open_changes, with_cycle};
-ghost use Rattle.library_parts.specs.Due.{level_due};
-ghost use Rattle.library_parts.specs.Indexed.{moves_back};
+ghost use Rattle.parts_model.specs.Due.{level_due};
+ghost use Rattle.parts_model.specs.Indexed.{moves_back};
 ghost use Rattle.lawful_states.specs.Lawful.{GoesBack};
-ghost use Rattle.library_parts.specs.Moved.{HasMovesRoom};
-ghost use Rattle.library_parts.specs.Rooms.{HasUndoRoom};
+ghost use Rattle.parts_model.specs.Moved.{HasMovesRoom};
+ghost use Rattle.parts_model.specs.Rooms.{HasUndoRoom};
 
 use crate::contents::Contents;
 use commit_level::Level;

@@ -7,13 +7,13 @@ ghost use Rattle.library_steps.specs.declared.limits.TheConstants.{LAST_SEQUENCE
 ghost use Rattle.library_steps.specs.State.{Memory, State, memory_of};
 ghost use Rattle.library_steps.specs.Change.{deposited, journaled};
 ghost use Rattle.library_steps.specs.Refusals.{sequences_left};
-ghost use Rattle.library_parts.specs.Answers.{Allows};
-ghost use Rattle.library_parts.specs.Deposits.{Leaves, with_drafts};
+ghost use Rattle.parts_model.specs.Answers.{Allows};
+ghost use Rattle.parts_model.specs.Deposits.{Leaves, with_drafts};
 
 use crate::contents::Contents;
 use crate::sizes::{bytes_of, draft_size};
-use crate::stop::Stop;
 use entry_codec::Draft;
+use parts_model::Stop;
 use std::alloc::AllocError;
 
 /// The refusal where too few sequences are left for a request that deposits entries.

@@ -6,38 +6,24 @@ ghost use Rattle.library_steps.specs.State.{memory_of, job_at, file_named, open_
 ghost use Rattle.library_steps.specs.History.{is_running};
 ghost use Rattle.library_steps.specs.Reads.{at_format};
 ghost use Rattle.library_steps.specs.Refusals.{named_or_refused, opened_file, member_of_file, sequences_left};
-ghost use Rattle.library_parts.specs.declared.stop.Stop.TheVariants.{Refused};
-ghost use Rattle.library_parts.specs.Answers.{Shows, Allows};
+ghost use Rattle.parts_model.specs.declared.stop.Stop.TheVariants.{Refused};
+ghost use Rattle.parts_model.specs.Answers.{Shows, Allows};
 ghost use Rattle.lawful_states.specs.Physical.{IsPhysical};
-ghost use Rattle.library_parts.specs.Finds.{ShowsOpen, FindsOpen, FindsMember, IsFormatIn, ReadsMember};
+ghost use Rattle.parts_model.specs.Finds.{ShowsOpen, FindsOpen, FindsMember, IsFormatIn, ReadsMember};
 ghost use Rattle.lawful_states.specs.Members.{HasMember};
-ghost use Rattle.library_parts.specs.Indexed.{IsViewBeside};
+ghost use Rattle.parts_model.specs.Indexed.{IsViewBeside};
 ghost use Rattle.job_table.specs.Opens.{AllOfNumber};
 ghost use Rattle.library_model.specs.Named.{named};
-ghost use Rattle.library_parts.specs.Reads.{ReadsAs, orders_in};
+ghost use Rattle.parts_model.specs.Reads.{ReadsAs, orders_in};
 
 use crate::contents::Contents;
-use crate::stop::Stop;
 use entry_codec::FileKind;
 use field_types::names::Name;
 use file_catalogue::{File, MemberStatus};
 use job_table::{Open, OpenAt};
 use library_model::replies::{LimitKind, Missing, Reply};
 use library_steps::limits::LAST_SEQUENCE;
-
-/// An open that a request names, and its file.
-#[derive(Clone, Copy)]
-pub struct OpenFound<'a> {
-    pub opened: &'a Open,
-    pub file: &'a File,
-}
-
-/// A member that a request names, and its file.
-#[derive(Drop)]
-pub struct MemberFound<'a> {
-    pub file: &'a File,
-    pub status: MemberStatus,
-}
+use parts_model::{MemberFound, OpenFound, Stop};
 
 impl Contents {
     /// The job's open of that name.

@@ -8,7 +8,7 @@ ghost use Rattle.library_model.specs.declared.replies.Reply.TheVariants.{Duplica
 ghost use Rattle.library_steps.specs.Refusals.{refuse_with};
 ghost use Rattle.journal_model.specs.Rollback.{MemberChange};
 ghost use Rattle.path_set.specs.Formats.{IsAskable};
-ghost use Rattle.library_parts.specs.NewKeys.{AllAreAskedBefore, AreAskedBefore, AreFreeIn, IsAskedBefore, IsFormatAt, IsKeptOver, IsKeyAt, IsNewFor, MayBeAsked, ShowsKey, first_reserved, keys_kept, keys_tested, least_of, least_reserved, lesser_of, new_in_paths, own_reserved, refused_by, reservation_of, taken, tested};
+ghost use Rattle.parts_model.specs.NewKeys.{AllAreAskedBefore, AreAskedBefore, AreFreeIn, IsAskedBefore, IsFormatAt, IsKeptOver, IsKeyAt, IsNewFor, MayBeAsked, ShowsKey, first_reserved, keys_kept, keys_tested, least_of, least_reserved, lesser_of, new_in_paths, own_reserved, refused_by, reservation_of, taken, tested};
 ghost use Rattle.member_slots.specs.declared.slot.Slot.TheVariants.{Live};
 ghost use Rattle.member_slots.specs.Member.{FitsSlot};
 ghost use Rattle.member_slots.specs.Members.{member_at, member_of};
@@ -17,12 +17,11 @@ ghost use Rattle.library_steps.specs.Uses.{changes_in};
 ghost use Rattle.library_steps.specs.History.{is_running};
 ghost use Rattle.library_steps.specs.State.{FileState, memory_of, job_at, job_of};
 ghost use Rattle.library_steps.specs.UniqueKeys.{has_key, if_new, key_in, key_of_slot, keys_free, takes_key, uniques_by};
-ghost use Rattle.library_parts.specs.Answers.{MayAllow};
+ghost use Rattle.parts_model.specs.Answers.{MayAllow};
 ghost use Rattle.lawful_states.specs.Slots.{MayStand};
 
 use crate::contents::Contents;
 use crate::given::unique_path;
-use crate::stop::Stop;
 use crate::texts::are_bytes;
 use field_types::names::Name;
 use file_catalogue::File;
@@ -31,6 +30,7 @@ use job_table::{Undo, Undos};
 use key_pages::Key;
 use library_model::replies::Reply;
 use member_slots::slot::Slot;
+use parts_model::{Reservation, Stop, Test};
 use std::alloc::AllocError;
 
 /// A key that comes into a unique path over a member.
@@ -49,20 +49,6 @@ struct NewRecord<'a> {
     member: u32,
     rrn: u32,
     image: &'a [u8],
-}
-
-/// A record whose key an open commit cycle of the job keeps to itself.
-#[derive(Clone, Copy)]
-pub struct Reservation {
-    job: u32,
-    rrn: u32,
-}
-
-/// Whether the keys that come into unique paths are kept by open commit cycles, or those of other records.
-#[derive(Clone, Copy, PartialEq)]
-enum Test {
-    Reserved,
-    Repeated,
 }
 
 impl Contents {

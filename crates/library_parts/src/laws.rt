@@ -10,10 +10,10 @@ ghost use Rattle.lock_table.specs.Levels.{locks_after};
 ghost use Rattle.library_model.specs.declared.replies.Reply.{Reply};
 ghost use Rattle.library_steps.specs.State.{State, Memory, memory_of};
 ghost use Rattle.library_steps.specs.Change.{Change, deposited, journaled, unjournaled};
-ghost use Rattle.library_parts.specs.Answers.{Answers};
+ghost use Rattle.parts_model.specs.Answers.{Answers};
 ghost use Rattle.lawful_states.specs.Calls.{IsOfOpen};
-ghost use Rattle.library_parts.specs.Locks.{HasLockRoom};
-ghost use Rattle.library_parts.specs.Parts.{Room};
+ghost use Rattle.parts_model.specs.Locks.{HasLockRoom};
+ghost use Rattle.parts_model.specs.Parts.{Room};
 
 /// A state answers a request with a change where it has the memory of the change, and its entries behind those of before.
 pub fn effects_answer()

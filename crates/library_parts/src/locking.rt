@@ -12,17 +12,17 @@ ghost use Rattle.library_steps.specs.History.{is_running};
 ghost use Rattle.library_steps.specs.Locking.{level_of, holder_of, record_of, clashing, not_locked, few_locks, locks_left};
 ghost use Rattle.library_steps.specs.SlotChange.{image_bytes, not_held, few_changes};
 ghost use Rattle.library_steps.specs.ChangeRecord.{has_open_lock, has_boundary_lock};
-ghost use Rattle.library_parts.specs.Answers.{Allows};
-ghost use Rattle.library_parts.specs.declared.stop.Stop.TheVariants.{Refused};
+ghost use Rattle.parts_model.specs.Answers.{Allows};
+ghost use Rattle.parts_model.specs.declared.stop.Stop.TheVariants.{Refused};
 ghost use Rattle.lawful_states.specs.Calls.{IsRead, IsWrite};
 
 use crate::contents::Contents;
-use crate::stop::Stop;
 use job_table::OpenAt;
 use library_model::replies::{LimitKind, Reply};
 use library_steps::limits::{MOST_GROUP_BYTES, MOST_GROUP_CHANGES};
 use lock_table::{Call, Held, Holder, Level, LockKind, MOST_LOCKS, RecordId, Wanted, asked};
 use member_slots::slot::Slot;
+use parts_model::Stop;
 
 impl Contents {
     /// The lock level of an open of the job; `None` where it isn't under commitment control.

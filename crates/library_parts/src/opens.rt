@@ -13,10 +13,10 @@ ghost use Rattle.library_steps.specs.Locking.{is_committed, with_locks};
 ghost use Rattle.library_steps.specs.EndJob.{job_ended};
 ghost use Rattle.job_table.specs.Table.{HasRoomFor};
 ghost use Rattle.job_table.specs.declared.jobs.TheConstants.{LAST_OPEN};
-ghost use Rattle.library_parts.specs.Finds.{OpensMembers};
+ghost use Rattle.parts_model.specs.Finds.{OpensMembers};
 ghost use Rattle.lawful_states.specs.Calls.{AsksNone, IsOfOpen};
-ghost use Rattle.library_parts.specs.Locks.{HasLockRoom};
-ghost use Rattle.library_parts.specs.Reads.{ReadsFor};
+ghost use Rattle.parts_model.specs.Locks.{HasLockRoom};
+ghost use Rattle.parts_model.specs.Reads.{ReadsFor};
 
 use crate::contents::Contents;
 use crate::cycles::level_due;

@@ -26,16 +26,14 @@ ghost use Rattle.logical_model.specs.Bases.{LogicalFile, PhysicalFile};
 ghost use Rattle.logical_model.specs.Formats.{has_key};
 ghost use Rattle.logical_model.specs.Readings.{has_numbers, join_in};
 ghost use Rattle.view_records.specs.Steps.{own_path};
-ghost use Rattle.library_parts.specs.Indexed.{AreNumbersOf, IsUnjoined, IsView, ReadsRowsBy, path_by};
+ghost use Rattle.parts_model.specs.Indexed.{AreNumbersOf, IsUnjoined, IsView, ReadsRowsBy, path_by};
 ghost use Rattle.job_table.specs.RowStand as rows;
 ghost use Rattle.dds_logical.specs.declared.views.LogicalSpec.TheVariants.{Join};
 ghost use Rattle.view_records.specs.KeyedViews.{IsKeyedJoin};
-ghost use Rattle.library_parts.specs.Finds.{OpensMembers, ReadsMember};
-ghost use Rattle.library_parts.specs.Reads.{CanNote, CanStand, CanStandAmong, CanStandIn, FindsEntry, GivesKey, HasKeyOf, IsAlongPath, IsInArrival, IsLookedIn, MayHaveKey, MayReadSo, Stands, TakesNumbers, ReadsAmong, ReadsAs, ReadsFor, ReadsNew, ReadsSo, formats_read, found_by, has_positions, orders_in, stood_at};
+ghost use Rattle.parts_model.specs.Finds.{OpensMembers, ReadsMember};
+ghost use Rattle.parts_model.specs.Reads.{CanNote, CanStand, CanStandAmong, CanStandIn, FindsEntry, GivesKey, HasKeyOf, IsAlongPath, IsInArrival, IsLookedIn, MayHaveKey, MayReadSo, Stands, TakesNumbers, ReadsAmong, ReadsAs, ReadsFor, ReadsNew, ReadsSo, formats_read, found_by, has_positions, orders_in, stood_at};
 
 use crate::contents::Contents;
-use crate::finds::OpenFound;
-use crate::stop::Stop;
 use crate::texts::are_of_bytes;
 use access_path::paths::Paths;
 use dds_logical::LogicalSpec;
@@ -61,15 +59,9 @@ use member_paths::{member_path, path_positions};
 use member_slots::members::Members;
 use open_position::position::{OpenPosition, Side, StandAt};
 use open_position::reads::ReadBy;
+use parts_model::{Found, OpenFound, Stop};
 use path_set::set::PathSet;
 use std::alloc::{AllocError, Global};
-
-/// A record that a read found, and the format by which it is shown.
-#[derive(Clone, Copy)]
-pub struct Found {
-    pub format: u16,
-    pub rrn: u32,
-}
 
 impl Contents {
     /// How a new open reads: by its file's path, or in arrival order. It stands at the start.

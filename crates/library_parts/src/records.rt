@@ -8,15 +8,15 @@ ghost use Rattle.library_steps.specs.SlotChange.{images_of, is_behind_last};
 ghost use Rattle.library_steps.specs.WriteRecord.{next_place, has_room};
 ghost use Rattle.library_steps.specs.declared.limits.TheConstants.{MOST_LIBRARY_BYTES};
 ghost use Rattle.library_steps.specs.Ranges.{library_bytes};
-ghost use Rattle.library_parts.specs.Answers.{Allows};
+ghost use Rattle.parts_model.specs.Answers.{Allows};
 
 use crate::contents::Contents;
-use crate::stop::Stop;
 use entry_codec::Images;
 use library_model::replies::{LimitKind, Reply};
 use library_steps::limits::MOST_LIBRARY_BYTES;
 use member_slots::member::Member;
 use member_slots::slot::Slot;
+use parts_model::Stop;
 
 impl Contents {
     /// The member with that number.

@@ -5,8 +5,8 @@ ghost use Rattle.library_steps.specs.Change.{deposited};
 ghost use Rattle.library_steps.specs.State.{memory_of, job_at};
 ghost use Rattle.library_steps.specs.History.{is_running};
 ghost use Rattle.memory_journal.specs.declared.journal.TheConstants.{LAST_BEFORE_DEPOSIT};
-ghost use Rattle.library_parts.specs.Locks.{HasLockRoom};
-ghost use Rattle.library_parts.specs.Rooms.{HasFileRoom, HasMemberRoom, HasSlotRoom, HasUndoRoom, spare_slots};
+ghost use Rattle.parts_model.specs.Locks.{HasLockRoom};
+ghost use Rattle.parts_model.specs.Rooms.{HasFileRoom, HasMemberRoom, HasSlotRoom, HasUndoRoom, spare_slots};
 
 use crate::contents::Contents;
 use entry_codec::Draft;

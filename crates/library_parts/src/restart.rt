@@ -5,8 +5,8 @@ ghost use Rattle.memory_journal.specs.declared.journal.TheConstants.{LAST_NUMBER
 ghost use Rattle.member_slots.specs.Members.{member_at, with_member};
 ghost use Rattle.library_steps.specs.MemberCommands.{with_slots};
 ghost use Rattle.library_steps.specs.State.{memory_of};
-ghost use Rattle.library_parts.specs.Filled.{MayFill, library_with};
-ghost use Rattle.library_parts.specs.Moved.{AreRemade};
+ghost use Rattle.parts_model.specs.Filled.{MayFill, library_with};
+ghost use Rattle.parts_model.specs.Moved.{AreRemade};
 
 use crate::contents::Contents;
 use crate::members::{changes_with, weight};

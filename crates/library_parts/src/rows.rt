@@ -16,8 +16,8 @@ ghost use Rattle.library_steps.specs.State.{job_at, memory_of, with_job};
 ghost use Rattle.logical_model.specs.Bases.{LogicalFile};
 ghost use Rattle.logical_model.specs.Formats.{row_shown};
 ghost use Rattle.path_set.specs.KeptPaths.{pages_at};
-ghost use Rattle.library_parts.specs.Reads.{ReadsAs};
-ghost use Rattle.library_parts.specs.Rows.{CanNoteRow, FindsRow, HoldDefaultsOf, IsRowAt, ReadsRows, images_found, row_found_by};
+ghost use Rattle.parts_model.specs.Reads.{ReadsAs};
+ghost use Rattle.parts_model.specs.Rows.{CanNoteRow, FindsRow, HoldDefaultsOf, IsRowAt, ReadsRows, images_found, row_found_by};
 
 use crate::bases::LibraryBases;
 use crate::contents::Contents;
@@ -39,18 +39,10 @@ use key_pages::Entry;
 use lock_table::Call;
 use member_slots::members::Members;
 use open_position::reads::ReadBy;
+use parts_model::RowFound;
 use path_set::set::PathSet;
 use std::alloc::{AllocError, Global};
 use view_records::logical_paths::readings::join_of;
-
-/// A row that a read found: of this join that of this entry of the primary file's path, with the secondary files' records of these numbers.
-#[derive(Drop)]
-pub struct RowFound {
-    pub spec: JoinSpec,
-    pub primary: Entry,
-    /// None where the default values stand for a record.
-    pub numbers: Vec<Option<u32>>,
-}
 
 impl Contents {
     /// The row that a read through the open of a join finds.
@@ -184,7 +176,7 @@ fn paths_of<'a>(alloc: Global, paths: &'a PathSet, ids: &[u64]) -> Result<Vec<&'
 }
 
 /// The records of a row, the primary's first.
-#[tactic(auto, using(crate::proofs::MadeLemmas::joined))]
+#[tactic(auto, using(parts_model::proofs::MadeLemmas::joined))]
 fn images_of<'a>(
     alloc: Global,
     members: &'a Members,

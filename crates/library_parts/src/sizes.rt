@@ -1,7 +1,7 @@
 //! How many bytes drafts come to as entries of the journal.
 ghost use Rattle.std.specs.Prelude.{◌≡◌, ◌+◌, ◌<◌, length, min};
 ghost use Rattle.library_steps.specs.EntrySizes.{body_size};
-ghost use Rattle.library_parts.specs.Sizes.{draft_bytes, draft_size};
+ghost use Rattle.parts_model.specs.Sizes.{draft_bytes, draft_size};
 
 use entry_codec::{Draft, EntryKind};
 use field_types::texts::Image;

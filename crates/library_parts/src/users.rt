@@ -16,10 +16,9 @@ ghost use Rattle.library_steps.specs.SlotChange.{status_among};
 ghost use Rattle.library_steps.specs.State.{file_named, memory_of};
 ghost use Rattle.library_steps.specs.Uses.{changer_of_any, user_of, user_of_any, user_of_logical};
 ghost use Rattle.job_table.specs.Users.{first_changer, least_of_members};
-ghost use Rattle.library_parts.specs.Answers.{Shows};
+ghost use Rattle.parts_model.specs.Answers.{Shows};
 
 use crate::contents::Contents;
-use crate::stop::Stop;
 use dds_logical::join_views::{JoinView, JoinedFile};
 use dds_logical::{LogicalSpec, View};
 use field_types::lists::ListOf;
@@ -29,6 +28,7 @@ use file_model::paths::PathSpec;
 use job_table::laws::{users_are_joined, view_users_are_joined};
 use job_table::lesser;
 use library_steps::limits::MOST_PATHS;
+use parts_model::Stop;
 use path_set::path_entrants::same::is_same;
 use std::alloc::AllocError;
 

@@ -8,8 +8,8 @@ use Rattle.library_steps.specs.UniqueKeys.{all_apart, unique_paths}
 use Rattle.library_steps.specs.Change.{Change, does, journaled}
 use Rattle.library_steps.specs.Ranges.{RangeWork, range_change, with_range}
 use Rattle.library_parts.specs.Answers.{Answers, MayAllow}
-use Rattle.library_parts.specs.declared.stop.Stop.{Stop}
-use Rattle.library_parts.specs.declared.stop.Stop.TheVariants.{NoMemory, Refused}
+use Rattle.library_parts.below.parts_model.specs.declared.stop.Stop.{Stop}
+use Rattle.library_parts.below.parts_model.specs.declared.stop.Stop.TheVariants.{NoMemory, Refused}
 use Rattle.library_steps.specs.Refusals.{◌>>=◌}
 use Rattle.library_parts.specs.Deposits.{Leaves}
 use Rattle.range_requests.specs.declared.plans.Plan.{Plan}

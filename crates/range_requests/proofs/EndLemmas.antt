@@ -15,8 +15,8 @@ use Rattle.library_model.specs.declared.replies.Reply.{Reply}
 use Rattle.library_steps.specs.JournalReads.{first_kept, is_no_range}
 use Rattle.library_steps.specs.Refusals.{◌>>=◌, refuse_if}
 use Rattle.library_steps.specs.State.{State, memory_of}
-use Rattle.library_parts.specs.declared.stop.Stop.{Stop}
-use Rattle.library_parts.specs.declared.stop.Stop.TheVariants.{NoMemory, Refused}
+use Rattle.library_parts.below.parts_model.specs.declared.stop.Stop.{Stop}
+use Rattle.library_parts.below.parts_model.specs.declared.stop.Stop.TheVariants.{NoMemory, Refused}
 use Rattle.library_parts.specs.Answers.{Shows}
 use Rattle.library_parts.specs.Finds.{entries_read}
 use Rattle.group_bounds.specs.Bounds as bounds

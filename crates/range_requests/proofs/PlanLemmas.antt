@@ -31,8 +31,8 @@ use Rattle.library_steps.specs.Drafts.{Author, author_of}
 use Rattle.library_steps.specs.EntrySizes.{entry_bytes, entry_size, body_size}
 use Rattle.library_steps.specs.Refusals.{◌>>=◌, refuse_if}
 use Rattle.library_steps.specs.Ranges.{Range, RangeWork, Given, allowed, apply_plan, done_or_refused, given_forward, given_back, library_bytes, range_between, range_named, remove_plan, slots_now, told, with_range, work_of}
-use Rattle.library_parts.specs.declared.stop.Stop.{Stop}
-use Rattle.library_parts.specs.declared.stop.Stop.TheVariants.{NoMemory, Refused}
+use Rattle.library_parts.below.parts_model.specs.declared.stop.Stop.{Stop}
+use Rattle.library_parts.below.parts_model.specs.declared.stop.Stop.TheVariants.{NoMemory, Refused}
 use Rattle.library_parts.specs.Answers.{Allows}
 use Rattle.lawful_states.specs.Lawful.{HoldsValues}
 use Rattle.lawful_states.proofs.MemberLemmas.{HasRecords-member_of, IsThere-IsSome, library_bytes-with}

@@ -8,8 +8,8 @@ use Rattle.library_steps.specs.Ranges.{Range, RangeWork, range_between, range_ch
 use Rattle.library_steps.specs.Change.{Change}
 use Rattle.library_steps.specs.Refusals.{◌>>=◌}
 use Rattle.library_steps.specs.UniqueKeys.{all_apart, unique_paths}
-use Rattle.library_parts.specs.declared.stop.Stop.{Stop}
-use Rattle.library_parts.specs.declared.stop.Stop.TheVariants.{NoMemory, Refused}
+use Rattle.library_parts.below.parts_model.specs.declared.stop.Stop.{Stop}
+use Rattle.library_parts.below.parts_model.specs.declared.stop.Stop.TheVariants.{NoMemory, Refused}
 use Rattle.lawful_states.specs.Lawful.{IsThere}
 use Rattle.range_images.specs.Given.{given_slots}
 use Rattle.range_requests.specs.declared.found.Found.{Found}

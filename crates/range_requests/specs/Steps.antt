@@ -18,7 +18,7 @@ use Rattle.library_steps.specs.Drafts.{Author}
 use Rattle.library_steps.specs.JournalReads.{entries_between, prior_to}
 use Rattle.library_steps.specs.Ranges.{Given, library_bytes, told}
 use Rattle.library_steps.specs.Refusals.{◌>>=◌, refuse_if}
-use Rattle.library_parts.specs.declared.stop.Stop.{Stop}
+use Rattle.library_parts.below.parts_model.specs.declared.stop.Stop.{Stop}
 use Rattle.library_parts.specs.Sizes.{draft_bytes}
 use Rattle.range_images.specs.Sides.{first_sequence}
 use Rattle.range_requests.specs.declared.found.Found.{Found}

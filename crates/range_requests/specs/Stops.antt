@@ -1,8 +1,8 @@
 -- What is answered where the way through a range is refused.
 use Rattle.library_model.specs.declared.replies.Reply.TheVariants as replies
 use Rattle.library_steps.specs.Ranges.{fault_reply}
-use Rattle.library_parts.specs.declared.stop.Stop.{Stop}
-use Rattle.library_parts.specs.declared.stop.Stop.TheVariants as stops
+use Rattle.library_parts.below.parts_model.specs.declared.stop.Stop.{Stop}
+use Rattle.library_parts.below.parts_model.specs.declared.stop.Stop.TheVariants as stops
 use Rattle.group_bounds.specs.declared.BoundFault.{BoundFault}
 use Rattle.group_bounds.specs.declared.BoundFault.TheVariants as bounds
 use Rattle.range_images.specs.declared.fault.ImagesFault.{ImagesFault}

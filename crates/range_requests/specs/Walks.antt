@@ -4,8 +4,8 @@ use Rattle.member_slots.specs.declared.slot.Slot.{Slot}
 use Rattle.journal_model.specs.Walks.{Numbered, RangeFault}
 use Rattle.journal_model.specs.Ranges.{RangeDone}
 use Rattle.library_steps.specs.Ranges.{Given, done_or_refused}
-use Rattle.library_parts.specs.declared.stop.Stop.{Stop}
-use Rattle.library_parts.specs.declared.stop.Stop.TheVariants.{NoMemory, Refused}
+use Rattle.library_parts.below.parts_model.specs.declared.stop.Stop.{Stop}
+use Rattle.library_parts.below.parts_model.specs.declared.stop.Stop.TheVariants.{NoMemory, Refused}
 use Rattle.range_images.specs.declared.slot_given.SlotGiven.{SlotGiven}
 use Rattle.range_images.specs.Given.{place_given, given_slots, AreInPlace}
 use Rattle.range_requests.specs.declared.walks.Walk.{Walk}

@@ -8,7 +8,7 @@ ghost use Rattle.library_steps.specs.State.{job_at, memory_of};
 ghost use Rattle.library_steps.specs.Ranges.{apply_plan, remove_plan, given_forward, given_back};
 ghost use Rattle.library_steps.specs.declared.limits.TheConstants.{LAST_SEQUENCE};
 ghost use Rattle.library_parts.specs.Answers.{Allows};
-ghost use Rattle.library_parts.specs.declared.stop.Stop.TheVariants.{NoMemory, Refused};
+ghost use Rattle.library_parts.below.parts_model.specs.declared.stop.Stop.TheVariants.{NoMemory, Refused};
 ghost use Rattle.range_images.specs.Given.{AreInPlace};
 ghost use Rattle.library_parts.specs.Given.{AddRecords, MayGive};
 ghost use Rattle.range_requests.specs.Plans.{GivesPlan, IsKept};

@@ -15,8 +15,8 @@ use Rattle.library_model.specs.declared.replies.Reply.{Reply}
 use Rattle.library_steps.specs.Refusals.{found}
 use Rattle.library_steps.specs.State.{format_in, physical_in}
 use Rattle.library_parts.specs.Answers.{Shows}
-use Rattle.library_parts.specs.declared.stop.Stop.{Stop}
-use Rattle.library_parts.specs.declared.stop.Stop.TheVariants.{NoMemory, Refused}
+use Rattle.library_parts.below.parts_model.specs.declared.stop.Stop.{Stop}
+use Rattle.library_parts.below.parts_model.specs.declared.stop.Stop.TheVariants.{NoMemory, Refused}
 use Rattle.record_changes.proofs.FindLemmas.{some-of}
 
 -- what follows of each result of a kind follows of what came out

@@ -9,8 +9,8 @@ use Rattle.library_steps.specs.Refusals.{◌>>=◌, OpenedFile}
 use Rattle.library_steps.specs.SlotChange.{NewSlot}
 use Rattle.library_steps.specs.WriteRecord.{packed, place_plan}
 use Rattle.library_steps.specs.ChangeRecord.{LastRead}
-use Rattle.library_parts.specs.declared.stop.Stop.{Stop}
-use Rattle.library_parts.specs.declared.stop.Stop.TheVariants.{NoMemory, Refused}
+use Rattle.library_parts.below.parts_model.specs.declared.stop.Stop.{Stop}
+use Rattle.library_parts.below.parts_model.specs.declared.stop.Stop.TheVariants.{NoMemory, Refused}
 use Rattle.record_changes.specs.declared.planned.PlannedSlot.{PlannedSlot}
 use Rattle.record_changes.specs.declared.planned.LockedRead.{LockedRead}
 use Rattle.record_changes.specs.Opens.{bare_slot, bare_read}

@@ -4,7 +4,7 @@ ghost use Rattle.library_steps.specs.State.{job_at, memory_of};
 ghost use Rattle.library_steps.specs.ChangeRecord.{unlock, unlock_change, unlock_plan};
 ghost use Rattle.library_steps.specs.History.{is_running};
 ghost use Rattle.library_parts.specs.Answers.{Answers};
-ghost use Rattle.library_parts.specs.declared.stop.Stop.TheVariants.{NoMemory};
+ghost use Rattle.library_parts.below.parts_model.specs.declared.stop.Stop.TheVariants.{NoMemory};
 ghost use Rattle.record_changes.specs.Plans.{PlansRead, last_read};
 
 use crate::locks::free_locks;

@@ -24,7 +24,7 @@ use Rattle.lawful_states.proofs.NameLemmas.{some-equal}
 use Rattle.library_steps.specs.Records.{reading_of}
 use Rattle.library_parts.specs.Indexed.{IsUnjoined}
 use Rattle.library_parts.specs.Rows.{IsRowAt}
-use Rattle.library_parts.specs.declared.rows.RowFound.{RowFound}
+use Rattle.library_parts.below.parts_model.specs.declared.rows.RowFound.{RowFound}
 use Rattle.record_reads.proofs.SimpleLemmas.{find_in-unjoined}
 use Rattle.lock_table.specs.declared.levels.Call.{Call}
 

@@ -25,8 +25,8 @@ use Rattle.record_reads.specs.declared.asked.AskedBy.{AskedBy}
 use Rattle.record_reads.specs.declared.asked.AskedBy.TheVariants.{Next, Prior, NextEqual, PriorEqual, FirstEqual, Number}
 use Rattle.record_reads.specs.Asked.{AsksThe, HasNumberFor, IsOfFormats, IsOfParts, found_in, found_through}
 use Rattle.library_parts.proofs.PlaceLemmas.{joined-parts}
-use Rattle.library_parts.specs.declared.rows.RowFound.{RowFound}
-use Rattle.library_parts.specs.declared.stop.Stop.{Stop}
+use Rattle.library_parts.below.parts_model.specs.declared.rows.RowFound.{RowFound}
+use Rattle.library_parts.below.parts_model.specs.declared.stop.Stop.{Stop}
 use Rattle.record_reads.specs.declared.plans.FoundAt.{FoundAt}
 use Rattle.record_reads.proofs.SimpleLemmas.{find_in-unjoined}
 

@@ -27,8 +27,8 @@ use Rattle.library_steps.specs.Records.{is_keyed, key_fault, key_or_fault, key_a
 use Rattle.library_steps.specs.Locking.{locks_left, with_locks}
 use Rattle.library_steps.specs.Reads.{Found, find_in, with_opened, positioned, bound_asked, position_plan, position_change}
 use Rattle.library_steps.specs.Reads.{if_lockable, read_plan, read_change, read_equal_plan, chained, chain_plan, chain}
-use Rattle.library_parts.specs.declared.stop.Stop.{Stop}
-use Rattle.library_parts.specs.declared.stop.Stop.TheVariants.{NoMemory, Refused}
+use Rattle.library_parts.below.parts_model.specs.declared.stop.Stop.{Stop}
+use Rattle.library_parts.below.parts_model.specs.declared.stop.Stop.TheVariants.{NoMemory, Refused}
 use Rattle.library_parts.specs.Reads.{GivesKey, Stands, formats_read, parts_read}
 use Rattle.record_reads.specs.declared.asked.AskedBy.{AskedBy}
 use Rattle.record_reads.specs.declared.asked.AskedBy.TheVariants.{FirstEqual, Number}

@@ -5,8 +5,8 @@ use Rattle.library_model.specs.declared.requests.SetPosition.{SetPosition}
 use Rattle.library_model.specs.declared.replies.Reply.{Reply}
 use Rattle.library_steps.specs.State.{State, memory_of}
 use Rattle.library_parts.specs.Answers.{Answers}
-use Rattle.library_parts.specs.declared.stop.Stop.{Stop}
-use Rattle.library_parts.specs.declared.stop.Stop.TheVariants.{NoMemory, Refused}
+use Rattle.library_parts.below.parts_model.specs.declared.stop.Stop.{Stop}
+use Rattle.library_parts.below.parts_model.specs.declared.stop.Stop.TheVariants.{NoMemory, Refused}
 use Rattle.record_reads.specs.Plans.{PlansPosition, position_set}
 
 pub position-stopped : (side : Side) (s : State) (job : ℕ) (args : SetPosition) (result : Result Reply Stop) (stop : Stop) → result ≡ Err stop

@@ -28,8 +28,8 @@ use Rattle.library_steps.specs.Records.{live_record}
 use Rattle.library_steps.specs.Locking.{level_of, is_committed, with_locks, not_locked, few_locks}
 use Rattle.library_steps.specs.Reads.{Found, entry_found, row_found, open_changed, bound_asked, position_plan, position_change, read_call, read_as, has_read}
 use Rattle.library_steps.specs.Reads.{read_plan, read_equal_plan, read_change, if_lockable, chained}
-use Rattle.library_parts.specs.declared.stop.Stop.{Stop}
-use Rattle.library_parts.specs.declared.stop.Stop.TheVariants.{NoMemory, Refused}
+use Rattle.library_parts.below.parts_model.specs.declared.stop.Stop.{Stop}
+use Rattle.library_parts.below.parts_model.specs.declared.stop.Stop.TheVariants.{NoMemory, Refused}
 use Rattle.library_parts.specs.Indexed.{IsUnjoined, IsViewBeside}
 use Rattle.lawful_states.specs.Calls.{IsRead}
 use Rattle.record_reads.specs.Asked.{found_through, CanBeAsked, nothing_found, any_from, equal_from, end_in}
@@ -44,7 +44,7 @@ use Rattle.file_model.specs.Joins.{RowPlace}
 use Rattle.logical_model.specs.Bases.{FileSpec, LogicalFile}
 use Rattle.library_parts.specs.Finds.{ReadsMember}
 use Rattle.library_parts.specs.Rows.{IsRowAt}
-use Rattle.library_parts.specs.declared.rows.RowFound.{RowFound}
+use Rattle.library_parts.below.parts_model.specs.declared.rows.RowFound.{RowFound}
 use Rattle.record_reads.specs.declared.plans.FoundAt.{FoundAt}
 
 -- ---- the open

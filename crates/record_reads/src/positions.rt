@@ -4,7 +4,7 @@ ghost use Rattle.library_steps.specs.State.{memory_of, job_at};
 ghost use Rattle.library_steps.specs.History.{is_running};
 ghost use Rattle.library_steps.specs.Reads.{set_lower_limit, set_greater_than};
 ghost use Rattle.library_parts.specs.Answers.{Answers};
-ghost use Rattle.library_parts.specs.declared.stop.Stop.TheVariants.{NoMemory};
+ghost use Rattle.library_parts.below.parts_model.specs.declared.stop.Stop.TheVariants.{NoMemory};
 ghost use Rattle.record_reads.specs.Plans.{CanBeSet, PlansPosition, position_set};
 
 use crate::plans::{UsedOpen, used_open};

@@ -1,5 +1,5 @@
-use Rattle.library_parts.proofs.TakingBackLemmas.{IsUnderway-first, IsUnderway-next, next-fits}
-use Rattle.library_parts.proofs.UndoingLemmas.{undoing-first, undoing-can, undoing-next, undoing-end}
+use Rattle.parts_model.proofs.TakingBackLemmas.{IsUnderway-first, IsUnderway-next, next-fits}
+use Rattle.parts_model.proofs.UndoingLemmas.{undoing-first, undoing-can, undoing-next, undoing-end}
 use Rattle.library_parts.proofs.boundaries.take_all_back.Goals as goal
 
 pub loop-undo-init : goal.loop-undo-init

@@ -1,6 +1,6 @@
 use Rattle.std.proofs.Common.{length}
-use Rattle.library_parts.proofs.TakingBackLemmas.{IsUnderway}
-use Rattle.library_parts.proofs.UndoingLemmas.{IsUndoing}
+use Rattle.parts_model.proofs.TakingBackLemmas.{IsUnderway}
+use Rattle.parts_model.proofs.UndoingLemmas.{IsUndoing}
 use Rattle.library_parts.proofs.boundaries.take_all_back.Given as goal
 
 abbrev pub invariant-loop-undo : goal.invariant-loop-undo

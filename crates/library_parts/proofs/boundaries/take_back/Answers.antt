@@ -1,5 +1,5 @@
 use Rattle.std.proofs.Common.{subst}
-use Rattle.library_parts.specs.Indexed.{HasBytes}
+use Rattle.parts_model.specs.Indexed.{HasBytes}
 use Rattle.library_parts.proofs.boundaries.take_back.Goals as goal
 
 pub change-again-requires : goal.change-again-requires

@@ -1,4 +1,4 @@
-use Rattle.library_parts.proofs.DepositLemmas.{Leaves-drafts}
+use Rattle.parts_model.proofs.DepositLemmas.{Leaves-drafts}
 use Rattle.library_parts.proofs.deposits.deposits_leave.Goals as goal
 
 pub returns : goal.returns

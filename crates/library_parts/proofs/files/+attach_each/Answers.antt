@@ -3,9 +3,9 @@ use Rattle.std.specs.Prelude.{All}
 use Rattle.std.specs.Option.{option_to_list}
 use Rattle.file_model.specs.declared.paths.PathSpec.{PathSpec}
 use Rattle.path_set.specs.Sharing.{CanBeKept}
-use Rattle.library_parts.specs.PathChanges.{Attaches, AttachesNone}
-use Rattle.library_parts.proofs.ManyAttached.{all-front, all-last, attaches-last, attaches-none, undone-last, undone-none}
-use Rattle.library_parts.proofs.AttachLemmas.{none-listed}
+use Rattle.parts_model.specs.PathChanges.{Attaches, AttachesNone}
+use Rattle.parts_model.proofs.ManyAttached.{all-front, all-last, attaches-last, attaches-none, undone-last, undone-none}
+use Rattle.parts_model.proofs.AttachLemmas.{none-listed}
 use Rattle.library_parts.proofs.files.+attach_each.Goals as goal
 
 on-err : {T E : Type 0} (r : Result T E) (P : Type 0) → P → OnErr r P

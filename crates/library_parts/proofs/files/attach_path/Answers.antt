@@ -2,7 +2,7 @@ use Rattle.std.proofs.Common.{◌≡◌, ◌≤◌, ◌∙◌, List, length, sym
 use Rattle.key_spec.specs.declared.KeyPart.{KeyPart}
 use Rattle.key_spec.specs.declared.KeySpec.{KeySpec}
 use Rattle.file_model.specs.FilePaths.{physical_path}
-use Rattle.library_parts.proofs.AttachLemmas.{attach-can, attaches-none, attaches-some, none-listed}
+use Rattle.parts_model.proofs.AttachLemmas.{attach-can, attaches-none, attaches-some, none-listed}
 use Rattle.library_parts.proofs.files.attach_path.Goals as goal
 
 pub attach-requires : goal.attach-requires

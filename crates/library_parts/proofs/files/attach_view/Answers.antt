@@ -1,5 +1,5 @@
 use Rattle.std.proofs.Common.{◌++◌, ◌∷◌, []}
-use Rattle.library_parts.proofs.ManyAttached.{attaches-last, undone-last, undone-none}
+use Rattle.parts_model.proofs.ManyAttached.{attaches-last, undone-last, undone-none}
 use Rattle.library_parts.proofs.files.attach_view.Goals as goal
 
 pub returns-in-Err-clause-refused : goal.returns-in-Err-clause-refused

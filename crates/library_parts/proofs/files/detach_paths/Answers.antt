@@ -2,8 +2,8 @@ use Rattle.std.proofs.Common.{◌∙◌, ◌+◌, ◌∷◌, ℕ, drop, sym, ap,
 use Rattle.std.proofs.lemmas.List.{drop_all, drop_more}
 use Rattle.library_model.specs.Named.{Named}
 use Rattle.library_steps.specs.State.{MemberStatus}
-use Rattle.library_parts.specs.PathChanges.{without_path_over}
-use Rattle.library_parts.proofs.IndexDetached.{IsGivingUp, giving-first, giving-next, giving-end}
+use Rattle.parts_model.specs.PathChanges.{without_path_over}
+use Rattle.parts_model.proofs.IndexDetached.{IsGivingUp, giving-first, giving-next, giving-end}
 use Rattle.library_parts.proofs.files.detach_paths.Goals as goal
 
 pub loop-status-init : goal.loop-status-init

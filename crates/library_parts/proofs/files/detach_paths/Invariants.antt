@@ -1,5 +1,5 @@
 use Rattle.std.proofs.Common.{drop}
-use Rattle.library_parts.proofs.IndexDetached.{IsGivingUp}
+use Rattle.parts_model.proofs.IndexDetached.{IsGivingUp}
 use Rattle.library_parts.proofs.files.detach_paths.Given as goal
 
 abbrev pub invariant-loop-status : goal.invariant-loop-status

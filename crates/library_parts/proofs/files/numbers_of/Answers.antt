@@ -1,7 +1,7 @@
 use Rattle.std.proofs.Common.{◌∙◌, ◌+◌, ◌∷◌, drop, ap, sym, arith}
 use Rattle.std.proofs.lemmas.List.{drop_all, drop_more}
-use Rattle.library_parts.proofs.MadeLemmas.{made-end, made-first, made-next}
-use Rattle.library_parts.proofs.OpenLemmas.{number-told}
+use Rattle.parts_model.proofs.MadeLemmas.{made-end, made-first, made-next}
+use Rattle.parts_model.proofs.OpenLemmas.{number-told}
 use Rattle.library_parts.proofs.files.numbers_of.Goals as goal
 
 pub loop-spec-init : goal.loop-spec-init

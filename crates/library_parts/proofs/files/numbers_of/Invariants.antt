@@ -1,5 +1,5 @@
-use Rattle.library_parts.specs.Reads.{IsNumberOf}
-use Rattle.library_parts.proofs.MadeLemmas.{AreMade}
+use Rattle.parts_model.specs.Reads.{IsNumberOf}
+use Rattle.parts_model.proofs.MadeLemmas.{AreMade}
 use Rattle.library_parts.proofs.files.numbers_of.Given as goal
 
 abbrev pub invariant-loop-spec : goal.invariant-loop-spec

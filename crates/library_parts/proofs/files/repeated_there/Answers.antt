@@ -1,7 +1,7 @@
 use Rattle.std.proofs.Common.{◌∙◌, inr, ap}
 use Rattle.std.specs.Option.{option_map}
 use Rattle.path_set.specs.declared.repeated.Repeated.{Repeated}
-use Rattle.library_parts.proofs.AttachLemmas.{there-repeated}
+use Rattle.parts_model.proofs.AttachLemmas.{there-repeated}
 use Rattle.library_parts.proofs.files.repeated_there.Goals as goal
 
 pub returns-in-Some-repeated_among : goal.returns-in-Some-repeated_among

@@ -1,6 +1,6 @@
 use Rattle.std.proofs.Common.{length}
 use Rattle.std.specs.List.{AllByRecursion}
-use Rattle.library_parts.specs.Indexed.{HasBytes}
+use Rattle.parts_model.specs.Indexed.{HasBytes}
 use Rattle.library_parts.proofs.given.are_of_bytes.Given as goal
 
 abbrev pub invariant-loop-rest : goal.invariant-loop-rest

@@ -6,9 +6,9 @@ use Rattle.std.specs.Option.{option_map}
 use Rattle.lawful_states.proofs.NameLemmas.{some-equal}
 use Rattle.library_steps.specs.State.{FileState}
 use Rattle.library_steps.specs.UniqueKeys.{UniquePath, all_apart, uniques_by}
-use Rattle.library_parts.specs.Answers.{MayAllow}
-use Rattle.library_parts.specs.Given.{IsTold}
-use Rattle.library_parts.proofs.GivenKeys.{one-apart}
+use Rattle.parts_model.specs.Answers.{MayAllow}
+use Rattle.parts_model.specs.Given.{IsTold}
+use Rattle.parts_model.proofs.GivenKeys.{one-apart}
 use Rattle.library_parts.proofs.given.file_apart.Goals as goal
 
 pub returns-in-Some-2 : goal.returns-in-Some-2

@@ -1,7 +1,7 @@
 use Rattle.std.proofs.Common.{◌≡◌, ◌∙◌, Err, Result, ap, arith, subst, sym}
 use Rattle.std.proofs.lemmas.Result.{err_from_is_err_and}
-use Rattle.library_parts.specs.declared.stop.Stop.{Stop}
-use Rattle.library_parts.proofs.GivenKeys.{TellsAll, apart-first, apart-next, apart-failed, apart-end}
+use Rattle.parts_model.specs.declared.stop.Stop.{Stop}
+use Rattle.parts_model.proofs.GivenKeys.{TellsAll, apart-first, apart-next, apart-failed, apart-end}
 use Rattle.library_parts.proofs.given.first_repeated.Goals as goal
 
 pub loop-place-init : goal.loop-place-init

@@ -1,4 +1,4 @@
-use Rattle.library_parts.proofs.GivenKeys.{AreApartTo}
+use Rattle.parts_model.proofs.GivenKeys.{AreApartTo}
 use Rattle.library_parts.proofs.given.first_repeated.Given as goal
 
 abbrev pub invariant-loop-place : goal.invariant-loop-place

@@ -1,8 +1,8 @@
 use Rattle.std.proofs.Common.{◌≡◌, ◌∙◌, None, sym}
 use Rattle.path_set.specs.EqualKeys.{repeated_of}
-use Rattle.library_parts.proofs.ApartLemmas.{none-there}
-use Rattle.library_parts.proofs.ResultLemmas.{is_nothing}
-use Rattle.library_parts.proofs.UniqueOver.{done-end, done-first, done-next, left-fewer}
+use Rattle.parts_model.proofs.ApartLemmas.{none-there}
+use Rattle.parts_model.proofs.ResultLemmas.{is_nothing}
+use Rattle.parts_model.proofs.UniqueOver.{done-end, done-first, done-next, left-fewer}
 use Rattle.library_parts.proofs.given.has_repeated.Goals as goal
 
 pub loop-path-init : goal.loop-path-init

@@ -1,6 +1,6 @@
 use Rattle.std.proofs.Common.{◌≡◌, None}
 use Rattle.path_set.specs.EqualKeys.{repeated_of}
-use Rattle.library_parts.proofs.UniqueOver.{AreDoneTo, left_from}
+use Rattle.parts_model.proofs.UniqueOver.{AreDoneTo, left_from}
 use Rattle.library_parts.proofs.given.has_repeated.Given as goal
 
 abbrev pub invariant-loop-path : goal.invariant-loop-path

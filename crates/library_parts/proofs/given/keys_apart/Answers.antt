@@ -1,4 +1,4 @@
-use Rattle.library_parts.proofs.ApartLemmas.{all-apart}
+use Rattle.parts_model.proofs.ApartLemmas.{all-apart}
 use Rattle.library_parts.proofs.given.keys_apart.Goals as goal
 
 pub returns-else-has_repeated : goal.returns-else-has_repeated

@@ -3,9 +3,9 @@ use Rattle.member_slots.specs.declared.slot.Slot.{Slot}
 use Rattle.member_slots.specs.declared.slot.Slot.TheVariants.{Live, Deleted}
 use Rattle.member_slots.specs.Member.{MemberState}
 use Rattle.member_slots.specs.Members.{NumberedMembers, member_of, with_member}
-use Rattle.library_parts.specs.Given.{members_given}
-use Rattle.library_parts.proofs.GivenLemmas.{appended-given, appended-length, changed-given, deleted-within, one_given, spare-set, spare-spent}
-use Rattle.library_parts.proofs.ResultLemmas.{on_ok}
+use Rattle.parts_model.specs.Given.{members_given}
+use Rattle.parts_model.proofs.GivenLemmas.{appended-given, appended-length, changed-given, deleted-within, one_given, spare-set, spare-spent}
+use Rattle.parts_model.proofs.ResultLemmas.{on_ok}
 use Rattle.library_parts.proofs.given.put.Goals as goal
 
 pub returns-then-rrn-slots_of-clause-members : goal.returns-then-rrn-slots_of-clause-members

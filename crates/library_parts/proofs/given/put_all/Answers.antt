@@ -4,8 +4,8 @@ use Rattle.member_slots.specs.Member.{MemberState}
 use Rattle.member_slots.specs.Members.{NumberedMembers, member_at, member_of, spare_at}
 use Rattle.range_images.specs.declared.slot_given.SlotGiven.{SlotGiven}
 use Rattle.range_images.specs.Given.{given_slots}
-use Rattle.library_parts.specs.Given.{CanTake, members_given}
-use Rattle.library_parts.proofs.GivenLemmas.{first-room, first-takes, given-none, given-step, member-next, none-left, rest-takes, there-next}
+use Rattle.parts_model.specs.Given.{CanTake, members_given}
+use Rattle.parts_model.proofs.GivenLemmas.{first-room, first-takes, given-none, given-step, member-next, none-left, rest-takes, there-next}
 use Rattle.library_parts.proofs.given.put_all.Goals as goal
 
 pub put-requires-clause-there : goal.put-requires-clause-there

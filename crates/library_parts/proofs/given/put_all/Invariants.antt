@@ -2,7 +2,7 @@ use Rattle.std.proofs.Common.{◌≡◌, ◌+◌, ◌≤◌, length, IsSome}
 use Rattle.std.specs.Vec.Iter.{into_iter_items, into_iter_len}
 use Rattle.member_slots.specs.Members.{member_at, member_of, spare_at}
 use Rattle.range_images.specs.Given.{given_slots}
-use Rattle.library_parts.specs.Given.{CanTake, members_given}
+use Rattle.parts_model.specs.Given.{CanTake, members_given}
 use Rattle.library_parts.proofs.given.put_all.Given as goal
 
 abbrev pub invariant-loop-slot : goal.invariant-loop-slot

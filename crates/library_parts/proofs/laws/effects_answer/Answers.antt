@@ -1,4 +1,4 @@
-use Rattle.library_parts.proofs.AnswerLemmas.{Answers-unjournaled, Answers-journaled}
+use Rattle.parts_model.proofs.AnswerLemmas.{Answers-unjournaled, Answers-journaled}
 use Rattle.library_parts.proofs.laws.effects_answer.Goals as goal
 
 pub returns-clause-unjournaled : goal.returns-clause-unjournaled

@@ -1,4 +1,4 @@
-use Rattle.library_parts.proofs.AnswerLemmas.{locks-fit}
+use Rattle.parts_model.proofs.AnswerLemmas.{locks-fit}
 use Rattle.library_parts.proofs.laws.locks_fit.Goals as goal
 
 pub returns : goal.returns

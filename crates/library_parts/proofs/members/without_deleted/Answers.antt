@@ -1,6 +1,6 @@
 use Rattle.std.proofs.Common.{◌∙◌, sym, ap, subst, arith}
 use Rattle.member_slots.specs.Member.{MemberState, FitsSlot}
-use Rattle.library_parts.proofs.RemadeLemmas.{copying-first, copying-next, copying-end}
+use Rattle.parts_model.proofs.RemadeLemmas.{copying-first, copying-next, copying-end}
 use Rattle.library_parts.proofs.members.without_deleted.Goals as goal
 
 pub loop-place-init : goal.loop-place-init

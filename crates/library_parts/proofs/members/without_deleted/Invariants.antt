@@ -1,4 +1,4 @@
-use Rattle.library_parts.proofs.RemadeLemmas.{IsCopying}
+use Rattle.parts_model.proofs.RemadeLemmas.{IsCopying}
 use Rattle.library_parts.proofs.members.without_deleted.Given as goal
 
 abbrev pub invariant-loop-place : goal.invariant-loop-place

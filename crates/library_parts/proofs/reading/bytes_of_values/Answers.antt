@@ -1,8 +1,8 @@
 use Rattle.std.proofs.Common.{◌∙◌, Err, true, ap, refl}
 use Rattle.key_order.specs.GivenValues.{key_fault}
 use Rattle.key_order.specs.declared.given.KeyFault.TheVariants.{Refused}
-use Rattle.library_parts.specs.Reads.{refusal}
-use Rattle.library_parts.proofs.HitLemmas.{key-stands, no-fault}
+use Rattle.parts_model.specs.Reads.{refusal}
+use Rattle.parts_model.proofs.HitLemmas.{key-stands, no-fault}
 use Rattle.library_parts.proofs.reading.bytes_of_values.Goals as goal
 
 pub returns-in-Ok : goal.returns-in-Ok

@@ -6,7 +6,7 @@ use Rattle.file_cursor.specs.Reading.{AreNumbered}
 use Rattle.file_cursor.specs.declared.places.Order.TheVariants.{Path}
 use Rattle.open_position.specs.OpenStand.{IsEntryIn}
 use Rattle.open_position.specs.Reads.{IsAskedOf, IsPathOver}
-use Rattle.library_parts.proofs.HitLemmas.{copied-is, copied-some, found-elsewhere, looked-along}
+use Rattle.parts_model.proofs.HitLemmas.{copied-is, copied-some, found-elsewhere, looked-along}
 use Rattle.library_parts.proofs.reading.hit_along.Goals as goal
 
 pub unwrap-path-requires : goal.unwrap-path-requires

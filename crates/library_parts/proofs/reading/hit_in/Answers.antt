@@ -5,7 +5,7 @@ use Rattle.file_cursor.specs.declared.places.Order.TheVariants.{Arrival}
 use Rattle.file_model.specs.Positions.{arrival_reading}
 use Rattle.open_position.specs.OpenStand.{IsEntryIn}
 use Rattle.open_position.specs.Reads.{IsAskedOf}
-use Rattle.library_parts.proofs.HitLemmas.{found-elsewhere, looked-in, match-is, match-some}
+use Rattle.parts_model.proofs.HitLemmas.{found-elsewhere, looked-in, match-is, match-some}
 use Rattle.library_parts.proofs.reading.hit_in.Goals as goal
 
 pub unwrap-member-requires : goal.unwrap-member-requires

@@ -1,6 +1,6 @@
 use Rattle.std.proofs.Common.{◌≡◌, ◌∙◌, ℕ, List, Option, Some, None, sym, subst}
 use Rattle.key_spec.specs.declared.KeyPart.{KeyPart}
-use Rattle.library_parts.specs.Reads.{IsLookedIn, ReadsAmong, has_positions}
+use Rattle.parts_model.specs.Reads.{IsLookedIn, ReadsAmong, has_positions}
 use Rattle.library_parts.proofs.reading.hit_of.Goals as goal
 
 pub hit_along-requires-clause-read : goal.hit_along-requires-clause-read

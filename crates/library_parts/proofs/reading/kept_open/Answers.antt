@@ -1,4 +1,4 @@
-use Rattle.library_parts.proofs.NoteLemmas.{shown-is, shown-some}
+use Rattle.parts_model.proofs.NoteLemmas.{shown-is, shown-some}
 use Rattle.library_parts.proofs.reading.kept_open.Goals as goal
 
 pub unwrap-requires : goal.unwrap-requires

@@ -1,6 +1,6 @@
 use Rattle.std.proofs.Common.{Some}
-use Rattle.library_parts.specs.Reads.{IsNumberOf}
-use Rattle.library_parts.proofs.MadeLemmas.{AreMade}
+use Rattle.parts_model.specs.Reads.{IsNumberOf}
+use Rattle.parts_model.proofs.MadeLemmas.{AreMade}
 use Rattle.library_parts.proofs.reading.numbers_kept.Given as goal
 
 abbrev pub invariant-loop-spec : goal.invariant-loop-spec

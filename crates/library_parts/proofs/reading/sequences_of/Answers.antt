@@ -1,6 +1,6 @@
 use Rattle.std.proofs.Common.{◌∙◌, ◌+◌, ◌∷◌, drop, ap, sym}
 use Rattle.std.proofs.lemmas.List.{drop_more}
-use Rattle.library_parts.proofs.MadeLemmas.{sequences-next}
+use Rattle.parts_model.proofs.MadeLemmas.{sequences-next}
 use Rattle.library_parts.proofs.reading.sequences_of.Goals as goal
 
 pub loop-joined-preserved : goal.loop-joined-preserved

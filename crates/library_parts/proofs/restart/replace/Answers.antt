@@ -1,6 +1,6 @@
 use Rattle.std.proofs.Common.{◌∙◌}
-use Rattle.library_parts.proofs.FilledLemmas.{with-put}
-use Rattle.library_parts.proofs.ResultLemmas.{on_ok}
+use Rattle.parts_model.proofs.FilledLemmas.{with-put}
+use Rattle.parts_model.proofs.ResultLemmas.{on_ok}
 use Rattle.library_parts.proofs.restart.replace.Goals as goal
 
 pub returns : goal.returns

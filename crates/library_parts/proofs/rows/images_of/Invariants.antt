@@ -1,5 +1,5 @@
 use Rattle.std.proofs.Common.{◌≡◌, ◌++◌, Bor, List, ℕ, length, map}
-use Rattle.library_parts.specs.Rows.{images_found, images_matched}
+use Rattle.parts_model.specs.Rows.{images_found, images_matched}
 use Rattle.library_parts.proofs.rows.images_of.Given as goal
 
 abbrev pub invariant-loop-files : goal.invariant-loop-files

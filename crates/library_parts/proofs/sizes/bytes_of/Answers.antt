@@ -1,6 +1,6 @@
 use Rattle.std.proofs.Common.{◌≡◌, ◌≤◌, length, drop, ap, arith}
 use Rattle.std.proofs.lemmas.List.{drop_all}
-use Rattle.library_parts.specs.Sizes.{draft_bytes}
+use Rattle.parts_model.specs.Sizes.{draft_bytes}
 use Rattle.library_parts.proofs.sizes.bytes_of.Goals as goal
 
 pub returns : goal.returns

@@ -1,5 +1,5 @@
 use Rattle.std.proofs.Common.{◌≡◌, ◌+◌, ◌≤◌, drop, min}
-use Rattle.library_parts.specs.Sizes.{draft_bytes}
+use Rattle.parts_model.specs.Sizes.{draft_bytes}
 use Rattle.library_parts.proofs.sizes.bytes_of.Given as goal
 
 abbrev pub invariant-loop-draft : goal.invariant-loop-draft

@@ -1,5 +1,5 @@
 use Rattle.std.proofs.Common.{◌≡◌, ◌∙◌, true, refl, sym}
-use Rattle.library_parts.proofs.ManyPaths.{any-first, any-rest}
+use Rattle.parts_model.proofs.ManyPaths.{any-first, any-rest}
 use Rattle.library_parts.proofs.users.stands_before.Goals as goal
 
 pub returns-then-is_same : goal.returns-then-is_same

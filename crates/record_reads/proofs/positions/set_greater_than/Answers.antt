@@ -1,7 +1,7 @@
 use Rattle.std.proofs.Common.{◌∙◌, Err, ap}
 use Rattle.std.proofs.lemmas.Result.{err_from_is_err_and}
 use Rattle.open_position.specs.declared.position.Side.TheVariants as sides
-use Rattle.library_parts.specs.declared.stop.Stop.{Stop}
+use Rattle.library_parts.below.parts_model.specs.declared.stop.Stop.{Stop}
 use Rattle.record_reads.proofs.StopLemmas.{position-stopped}
 use Rattle.record_reads.proofs.positions.set_greater_than.Goals as goal
 

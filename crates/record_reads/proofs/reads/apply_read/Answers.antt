@@ -1,7 +1,7 @@
 use Rattle.std.proofs.Common.{◌∙◌, Option, refl, sym, subst}
 use Rattle.library_model.specs.declared.replies.Reply.TheVariants.{Record}
 use Rattle.library_steps.specs.State.{memory_of}
-use Rattle.library_parts.specs.declared.rows.RowFound.{RowFound}
+use Rattle.library_parts.below.parts_model.specs.declared.rows.RowFound.{RowFound}
 use Rattle.record_reads.specs.Plans.{IsOfRow}
 use Rattle.record_reads.proofs.LockLemmas.{IsRead-IsOfOpen}
 use Rattle.record_reads.proofs.EffectLemmas.{opened-still, asked-still, found-still, read-after, read-noted, row-still}

@@ -4,7 +4,7 @@ use Rattle.file_model.specs.Joins.{RowPlace}
 use Rattle.library_model.specs.declared.replies.RecordRead.{RecordRead}
 use Rattle.library_steps.specs.Reads.{Found}
 use Rattle.library_steps.specs.State.{memory_of}
-use Rattle.library_parts.specs.declared.rows.RowFound.{RowFound}
+use Rattle.library_parts.below.parts_model.specs.declared.rows.RowFound.{RowFound}
 use Rattle.record_reads.specs.Plans.{IsOfRow, record_shown}
 use Rattle.record_reads.proofs.shown.shown_found.Goals as goal
 

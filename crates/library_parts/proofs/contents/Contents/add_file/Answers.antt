@@ -4,10 +4,10 @@ use Rattle.record_fmt.specs.Layout.{record_length}
 use Rattle.logical_model.specs.Bases.{FileSpec, PhysicalFile}
 use Rattle.lawful_states.specs.Physical.{IsPhysical}
 use Rattle.library_steps.specs.State.{fields_of, format_in, physical_in}
-use Rattle.library_parts.specs.Parts.{state_of}
+use Rattle.parts_model.specs.Parts.{state_of}
 use Rattle.lawful_states.proofs.FileLemmas.{AreOne-with_file, based-physical, next-unowned, distinct-one}
-use Rattle.library_parts.proofs.IndexFiles.{next-none, physical-is, IsIndexed-with_file}
-use Rattle.library_parts.proofs.ResultLemmas.{on_ok}
+use Rattle.parts_model.proofs.IndexFiles.{next-none, physical-is, IsIndexed-with_file}
+use Rattle.parts_model.proofs.ResultLemmas.{on_ok}
 use Rattle.library_parts.proofs.contents.Contents.add_file.Goals as goal
 
 pub attach_path-requires : goal.attach_path-requires

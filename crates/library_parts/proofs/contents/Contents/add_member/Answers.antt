@@ -4,11 +4,11 @@ use Rattle.record_fmt.specs.Layout.{record_length}
 use Rattle.logical_model.specs.Bases.{FileSpec}
 use Rattle.library_model.specs.Named.{named}
 use Rattle.library_steps.specs.State.{FileState, fields_of, format_in, physical_in}
-use Rattle.library_parts.specs.Parts.{state_of}
+use Rattle.parts_model.specs.Parts.{state_of}
 use Rattle.lawful_states.proofs.FileLemmas.{next-unowned}
 use Rattle.lawful_states.proofs.AddLemmas.{AreOne-member_added}
-use Rattle.library_parts.proofs.IndexFiles.{next-none, physical-by, IsIndexed-with_member}
-use Rattle.library_parts.proofs.ResultLemmas.{on_ok}
+use Rattle.parts_model.proofs.IndexFiles.{next-none, physical-by, IsIndexed-with_member}
+use Rattle.parts_model.proofs.ResultLemmas.{on_ok}
 use Rattle.library_parts.proofs.contents.Contents.add_member.Goals as goal
 
 pub attach_path-requires : goal.attach_path-requires

@@ -4,11 +4,11 @@ use Rattle.job_table.specs.Table.{job_of_number}
 use Rattle.library_model.specs.Named.{named}
 use Rattle.library_steps.specs.LogicalFiles.{bases_in}
 use Rattle.library_steps.specs.Opens.{new_open}
-use Rattle.library_parts.proofs.FindLemmas.{opens-members}
-use Rattle.library_parts.proofs.OpenLooks.{reads-renumbered}
-use Rattle.library_parts.proofs.IndexOpens.{IsIndexed-with_open}
+use Rattle.parts_model.proofs.FindLemmas.{opens-members}
+use Rattle.parts_model.proofs.OpenLooks.{reads-renumbered}
+use Rattle.parts_model.proofs.IndexOpens.{IsIndexed-with_open}
 use Rattle.lawful_states.proofs.LawfulLemmas.{AreOne-with_open}
-use Rattle.library_parts.proofs.DueLemmas.{HasDue-kept}
+use Rattle.parts_model.proofs.DueLemmas.{HasDue-kept}
 use Rattle.library_parts.proofs.contents.Contents.add_open.Goals as goal
 
 pub add_open-requires-clause-start : goal.add_open-requires-clause-start

@@ -15,14 +15,14 @@ use Rattle.library_steps.specs.CreateLogicalFile.{first_repeated}
 use Rattle.library_steps.specs.LogicalFiles.{bases_in, bases_of}
 use Rattle.library_steps.specs.Refusals.{refuse_with}
 use Rattle.library_steps.specs.State.{memory_of}
-use Rattle.library_parts.specs.declared.stop.Stop.{Stop}
-use Rattle.library_parts.specs.Answers.{MayAllow}
-use Rattle.library_parts.specs.Indexed.{rows_paths}
-use Rattle.library_parts.specs.Parts.{LibraryParts, state_of}
-use Rattle.library_parts.specs.PathChanges.{Attaches, AttachesNone}
+use Rattle.parts_model.specs.declared.stop.Stop.{Stop}
+use Rattle.parts_model.specs.Answers.{MayAllow}
+use Rattle.parts_model.specs.Indexed.{rows_paths}
+use Rattle.parts_model.specs.Parts.{LibraryParts, state_of}
+use Rattle.parts_model.specs.PathChanges.{Attaches, AttachesNone}
 use Rattle.lawful_states.proofs.FileLemmas.{AreOne-with_logical}
-use Rattle.library_parts.proofs.IndexFiles.{described-over, distinct-none, rows-can, view-can, view-repeated, view-tells, IsIndexed-with_view, IsIndexed-without_paths}
-use Rattle.library_parts.proofs.IndexLooks.{records-of}
+use Rattle.parts_model.proofs.IndexFiles.{described-over, distinct-none, rows-can, view-can, view-repeated, view-tells, IsIndexed-with_view, IsIndexed-without_paths}
+use Rattle.parts_model.proofs.IndexLooks.{records-of}
 use Rattle.library_parts.proofs.contents.Contents.add_view.Goals as goal
 
 pub attach_view-requires-clause-kept : goal.attach_view-requires-clause-kept

@@ -1,10 +1,10 @@
 use Rattle.std.proofs.Common.{◌≡◌, ◌∙◌, Err, Result, ap, arith, subst, sym}
 use Rattle.std.proofs.lemmas.Result.{err_from_is_err_and}
 use Rattle.library_steps.specs.State.{memory_of}
-use Rattle.library_parts.specs.declared.stop.Stop.{Stop}
-use Rattle.library_parts.specs.Answers.{MayAllow}
-use Rattle.library_parts.specs.NewKeys.{keys_tested}
-use Rattle.library_parts.proofs.FreePaths.{tested-end, tested-failed, tested-first, tested-next}
+use Rattle.parts_model.specs.declared.stop.Stop.{Stop}
+use Rattle.parts_model.specs.Answers.{MayAllow}
+use Rattle.parts_model.specs.NewKeys.{keys_tested}
+use Rattle.parts_model.proofs.FreePaths.{tested-end, tested-failed, tested-first, tested-next}
 use Rattle.library_parts.proofs.contents.Contents.all_free.Goals as goal
 
 pub loop-place-init : goal.loop-place-init

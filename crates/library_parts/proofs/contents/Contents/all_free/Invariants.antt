@@ -1,5 +1,5 @@
 use Rattle.library_steps.specs.State.{memory_of}
-use Rattle.library_parts.proofs.FreePaths.{AreTestedTo}
+use Rattle.parts_model.proofs.FreePaths.{AreTestedTo}
 use Rattle.library_parts.proofs.contents.Contents.all_free.Given as goal
 
 abbrev pub invariant-loop-place : goal.invariant-loop-place

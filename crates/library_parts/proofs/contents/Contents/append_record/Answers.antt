@@ -7,10 +7,10 @@ use Rattle.member_slots.specs.Members.{NumberedMembers, member_of}
 use Rattle.path_set.specs.RecordChanges.{moves_in}
 use Rattle.path_set.specs.MemberSteps.{record_added, slot_replaced}
 use Rattle.job_table.specs.Table.{changes_held}
-use Rattle.library_parts.proofs.IndexMoves.{IsIndexed-append, append-back, append-can, append-moves, room-left}
-use Rattle.library_parts.proofs.IndexPaths.{room-fewer}
+use Rattle.parts_model.proofs.IndexMoves.{IsIndexed-append, append-back, append-can, append-moves, room-left}
+use Rattle.parts_model.proofs.IndexPaths.{room-fewer}
 use Rattle.lawful_states.proofs.LawfulLemmas.{AreOne-appended}
-use Rattle.library_parts.proofs.ResultLemmas.{on_ok}
+use Rattle.parts_model.proofs.ResultLemmas.{on_ok}
 use Rattle.library_parts.proofs.contents.Contents.append_record.Goals as goal
 
 pub change-requires : goal.change-requires

@@ -1,7 +1,7 @@
 use Rattle.std.proofs.Common.{ap, arith, subst}
-use Rattle.library_parts.specs.Finds.{ReadsMember}
-use Rattle.library_parts.specs.Parts.{state_of}
-use Rattle.library_parts.proofs.FindLemmas.{members-many, reads-at, some-below}
+use Rattle.parts_model.specs.Finds.{ReadsMember}
+use Rattle.parts_model.specs.Parts.{state_of}
+use Rattle.parts_model.proofs.FindLemmas.{members-many, reads-at, some-below}
 use Rattle.library_parts.proofs.contents.Contents.at_format.Goals as goal
 
 pub returns-clause-there : goal.returns-clause-there

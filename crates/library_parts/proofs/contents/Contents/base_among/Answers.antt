@@ -2,7 +2,7 @@ use Rattle.std.proofs.Common.{length, refl}
 use Rattle.std.proofs.lemmas.Option.{slice_get_read}
 use Rattle.library_steps.specs.LogicalFiles.{bases_of}
 use Rattle.library_steps.specs.State.{memory_of}
-use Rattle.library_parts.proofs.UnderLemmas.{each-under}
+use Rattle.parts_model.proofs.UnderLemmas.{each-under}
 use Rattle.library_parts.proofs.contents.Contents.base_among.Goals as goal
 
 pub returns : goal.returns

@@ -3,7 +3,7 @@ use Rattle.dds_logical.specs.declared.views.LogicalSpec.{LogicalSpec}
 use Rattle.logical_model.specs.Bases.{base_members, base_names}
 use Rattle.library_steps.specs.LogicalFiles.{bases_of}
 use Rattle.library_steps.specs.State.{memory_of}
-use Rattle.library_parts.proofs.UnderLemmas.{first-under}
+use Rattle.parts_model.proofs.UnderLemmas.{first-under}
 use Rattle.library_parts.proofs.contents.Contents.base_at.Goals as goal
 
 pub returns-in-Simple : goal.returns-in-Simple

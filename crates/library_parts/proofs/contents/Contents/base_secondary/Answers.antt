@@ -3,7 +3,7 @@ use Rattle.dds_logical.specs.declared.join_views.JoinedFile.{JoinedFile}
 use Rattle.std.proofs.lemmas.Option.{slice_get_read}
 use Rattle.library_steps.specs.LogicalFiles.{bases_of}
 use Rattle.library_steps.specs.State.{memory_of}
-use Rattle.library_parts.proofs.UnderLemmas.{each-joined}
+use Rattle.parts_model.proofs.UnderLemmas.{each-joined}
 use Rattle.library_parts.proofs.contents.Contents.base_secondary.Goals as goal
 
 pub returns : goal.returns

@@ -1,7 +1,7 @@
-use Rattle.library_parts.proofs.DueLemmas.{HasDue-begun}
-use Rattle.library_parts.proofs.IndexOpens.{IsIndexed-begun}
+use Rattle.parts_model.proofs.DueLemmas.{HasDue-begun}
+use Rattle.parts_model.proofs.IndexOpens.{IsIndexed-begun}
 use Rattle.lawful_states.proofs.LawfulLemmas.{AreOne-begun}
-use Rattle.library_parts.proofs.LawfulLemmas.{OnErr-jobs}
+use Rattle.parts_model.proofs.LawfulLemmas.{OnErr-jobs}
 use Rattle.library_parts.proofs.contents.Contents.begin_job.Goals as goal
 
 pub invariant_of-self : goal.invariant_of-self

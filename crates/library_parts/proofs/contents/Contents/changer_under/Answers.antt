@@ -5,7 +5,7 @@ use Rattle.library_steps.specs.Checkpoint.{lesser}
 use Rattle.library_steps.specs.LogicalFiles.{bases_of}
 use Rattle.library_steps.specs.State.{memory_of}
 use Rattle.library_steps.specs.Uses.{changer_of_any}
-use Rattle.library_parts.proofs.UnderLemmas.{all-dropped, least-more}
+use Rattle.parts_model.proofs.UnderLemmas.{all-dropped, least-more}
 use Rattle.library_parts.proofs.contents.Contents.changer_under.Goals as goal
 
 pub loop-left-init : goal.loop-left-init

@@ -8,12 +8,12 @@ use Rattle.lock_table.specs.declared.levels.Call.TheVariants.{Commit}
 use Rattle.lock_table.specs.Levels.{locks_after}
 use Rattle.library_steps.specs.State.{memory_of, job_of, job_at, job_changed, or_new, with_opens}
 use Rattle.library_steps.specs.Commitment.{committed_open, without_cycle}
-use Rattle.library_parts.specs.Boundaries.{cycle_end}
-use Rattle.library_parts.specs.Due.{cycle_due}
-use Rattle.library_parts.specs.Parts.{state_of}
-use Rattle.library_parts.proofs.BoundaryLemmas.{commit-answers, length-cycle_end}
-use Rattle.library_parts.proofs.DueLemmas.{HasDue-changed, job_due-part}
-use Rattle.library_parts.proofs.IndexChanges.{IsIndexed-committed}
+use Rattle.parts_model.specs.Boundaries.{cycle_end}
+use Rattle.parts_model.specs.Due.{cycle_due}
+use Rattle.parts_model.specs.Parts.{state_of}
+use Rattle.parts_model.proofs.BoundaryLemmas.{commit-answers, length-cycle_end}
+use Rattle.parts_model.proofs.DueLemmas.{HasDue-changed, job_due-part}
+use Rattle.parts_model.proofs.IndexChanges.{IsIndexed-committed}
 use Rattle.lawful_states.proofs.LawfulLemmas.{AreOne-committed, AreOne-journal, committed-memory}
 use Rattle.lawful_states.proofs.LockLemmas.{All-locks_after, running-HasBegun}
 use Rattle.library_parts.proofs.contents.Contents.commit.Goals as goal

@@ -1,7 +1,7 @@
 use Rattle.std.proofs.Common.{◌∙◌, sym}
 use Rattle.library_steps.specs.State.{memory_of}
-use Rattle.library_parts.specs.Parts.{state_of}
-use Rattle.library_parts.proofs.ManyPaths.{counted-now}
+use Rattle.parts_model.specs.Parts.{state_of}
+use Rattle.parts_model.proofs.ManyPaths.{counted-now}
 use Rattle.library_parts.proofs.contents.Contents.count_now.Goals as goal
 
 pub returns : goal.returns

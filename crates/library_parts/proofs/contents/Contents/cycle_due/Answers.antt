@@ -1,7 +1,7 @@
 use Rattle.std.proofs.Common.{◌≡◌, ◌∙◌, length, ap, arith}
 use Rattle.library_steps.specs.State.{job_at, or_new}
 use Rattle.library_steps.specs.Uses.{changes_in}
-use Rattle.library_parts.proofs.DueLemmas.{cycle_due-changes, job_due-part}
+use Rattle.parts_model.proofs.DueLemmas.{cycle_due-changes, job_due-part}
 use Rattle.library_parts.proofs.contents.Contents.cycle_due.Goals as goal
 
 pub overflow_mul-result : goal.overflow_mul-result

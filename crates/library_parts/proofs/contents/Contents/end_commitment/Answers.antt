@@ -9,13 +9,13 @@ use Rattle.lawful_states.specs.Jobs.{HasBegun}
 use Rattle.library_steps.specs.State.{job_at, job_changed, or_new}
 use Rattle.library_steps.specs.Commitment.{with_level}
 use Rattle.library_steps.specs.Drafts.{library_draft}
-use Rattle.library_parts.specs.Boundaries.{author}
-use Rattle.library_parts.specs.Due.{level_due}
-use Rattle.library_parts.specs.Parts.{state_of}
-use Rattle.library_parts.proofs.BoundaryLemmas.{ended-answers}
-use Rattle.library_parts.proofs.IndexOpens.{IsIndexed-with_level}
+use Rattle.parts_model.specs.Boundaries.{author}
+use Rattle.parts_model.specs.Due.{level_due}
+use Rattle.parts_model.specs.Parts.{state_of}
+use Rattle.parts_model.proofs.BoundaryLemmas.{ended-answers}
+use Rattle.parts_model.proofs.IndexOpens.{IsIndexed-with_level}
 use Rattle.lawful_states.proofs.LawfulLemmas.{AreOne-commitment_ended, AreOne-journal}
-use Rattle.library_parts.proofs.DueLemmas.{HasDue-changed, job_due-part, started-due}
+use Rattle.parts_model.proofs.DueLemmas.{HasDue-changed, job_due-part, started-due}
 use Rattle.library_parts.proofs.contents.Contents.end_commitment.Goals as goal
 
 pub deposit-sequence-requires : goal.deposit-sequence-requires

@@ -4,10 +4,10 @@ use Rattle.lock_table.specs.Lock.{is_by}
 use Rattle.lawful_states.specs.Jobs.{HasBegun}
 use Rattle.library_steps.specs.State.{job_at, or_new}
 use Rattle.library_steps.specs.EndJob.{ended_job}
-use Rattle.library_parts.specs.Due.{cycle_due, level_due}
-use Rattle.library_parts.proofs.IndexChanges.{IsIndexed-ended}
+use Rattle.parts_model.specs.Due.{cycle_due, level_due}
+use Rattle.parts_model.proofs.IndexChanges.{IsIndexed-ended}
 use Rattle.lawful_states.proofs.LawfulLemmas.{AreOne-ended}
-use Rattle.library_parts.proofs.DueLemmas.{HasDue-changed, job_due-part}
+use Rattle.parts_model.proofs.DueLemmas.{HasDue-changed, job_due-part}
 use Rattle.library_parts.proofs.contents.Contents.end_job.Goals as goal
 
 pub overflow_sub-self : goal.overflow_sub-self

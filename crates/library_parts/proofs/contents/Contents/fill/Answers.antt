@@ -5,10 +5,10 @@ use Rattle.library_steps.specs.Ranges.{library_bytes}
 use Rattle.lawful_states.specs.Slots.{weight}
 use Rattle.lawful_states.proofs.MemberLemmas.{member_of-with, is_some-IsSome}
 use Rattle.path_set.proofs.RebuildLemmas.{rebuilt-ties}
-use Rattle.library_parts.specs.Filled.{MayFill}
-use Rattle.library_parts.proofs.IndexMoves.{changes-held}
-use Rattle.library_parts.proofs.IndexRebuilt.{IsIndexed-rebuilt}
-use Rattle.library_parts.proofs.FilledLemmas.{AreOne-filled}
+use Rattle.parts_model.specs.Filled.{MayFill}
+use Rattle.parts_model.proofs.IndexMoves.{changes-held}
+use Rattle.parts_model.proofs.IndexRebuilt.{IsIndexed-rebuilt}
+use Rattle.parts_model.proofs.FilledLemmas.{AreOne-filled}
 use Rattle.library_parts.proofs.contents.Contents.fill.Goals as goal
 
 pub replace-requires : goal.replace-requires

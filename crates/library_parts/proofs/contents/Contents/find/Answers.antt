@@ -8,10 +8,10 @@ use Rattle.file_model.specs.KeyOrder.{merged_parts}
 use Rattle.open_position.specs.Reads.{asked_of, IsAskedOf}
 use Rattle.library_steps.specs.Records.{reading_of}
 use Rattle.library_steps.specs.State.{memory_of}
-use Rattle.library_parts.specs.Parts.{state_of}
-use Rattle.library_parts.specs.Reads.{FindsEntry}
-use Rattle.library_parts.proofs.FindLemmas.{reads-at, some-below}
-use Rattle.library_parts.proofs.ReadLemmas.{asked-live, found-live, none-found, some-found}
+use Rattle.parts_model.specs.Parts.{state_of}
+use Rattle.parts_model.specs.Reads.{FindsEntry}
+use Rattle.parts_model.proofs.FindLemmas.{reads-at, some-below}
+use Rattle.parts_model.proofs.ReadLemmas.{asked-live, found-live, none-found, some-found}
 use Rattle.library_parts.proofs.contents.Contents.find.Goals as goal
 
 pub hit_of-requires-clause-read : goal.hit_of-requires-clause-read

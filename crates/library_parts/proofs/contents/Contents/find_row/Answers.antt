@@ -1,4 +1,4 @@
-use Rattle.library_parts.specs.Rows.{ReadsRows}
+use Rattle.parts_model.specs.Rows.{ReadsRows}
 use Rattle.library_parts.proofs.contents.Contents.find_row.Goals as goal
 
 pub join_of-requires : goal.join_of-requires

@@ -11,18 +11,18 @@ use Rattle.lawful_states.specs.Jobs.{HasBegun}
 use Rattle.library_steps.specs.State.{memory_of, job_of, job_at, job_changed, or_new}
 use Rattle.library_steps.specs.Locking.{is_committed}
 use Rattle.library_steps.specs.Uses.{changes_in}
-use Rattle.library_parts.specs.Boundaries.{definition_end, roll_drafts}
+use Rattle.parts_model.specs.Boundaries.{definition_end, roll_drafts}
 use Rattle.lawful_states.specs.Back.{members_back}
-use Rattle.library_parts.specs.Due.{cycle_due, level_due}
+use Rattle.parts_model.specs.Due.{cycle_due, level_due}
 use Rattle.lawful_states.specs.Lawful.{FitsPlace}
-use Rattle.library_parts.specs.Parts.{state_of}
+use Rattle.parts_model.specs.Parts.{state_of}
 use Rattle.lawful_states.proofs.BackLemmas.{CycleGoesBack-of}
-use Rattle.library_parts.proofs.UndoingLemmas.{can-take_back, indexed-as, undos-ended}
-use Rattle.library_parts.proofs.DueLemmas.{HasDue-changed, job_due-part}
+use Rattle.parts_model.proofs.UndoingLemmas.{can-take_back, indexed-as, undos-ended}
+use Rattle.parts_model.proofs.DueLemmas.{HasDue-changed, job_due-part}
 use Rattle.lawful_states.proofs.LawfulLemmas.{AreOne-journal}
 use Rattle.library_steps.specs.EndJob.{ended_job}
 use Rattle.lawful_states.proofs.BoundaryLemmas.{AreOne-finished, cycle-places}
-use Rattle.library_parts.proofs.BoundaryLemmas.{deposited-append, finish-answers, length-definition_end, rolled-due}
+use Rattle.parts_model.proofs.BoundaryLemmas.{deposited-append, finish-answers, length-definition_end, rolled-due}
 use Rattle.library_parts.proofs.contents.Contents.finish_job.Goals as goal
 
 pub roll_back-requires-clause-fit : goal.roll_back-requires-clause-fit

@@ -1,9 +1,9 @@
 use Rattle.std.proofs.Common.{Bool, Result}
 use Rattle.library_model.specs.declared.replies.Reply.{Reply}
 use Rattle.library_steps.specs.State.{memory_of}
-use Rattle.library_parts.specs.NewKeys.{keys_tested}
-use Rattle.library_parts.specs.declared.keys.Test.TheVariants.{Reserved, Repeated}
-use Rattle.library_parts.proofs.AllowLemmas.{may-go, may-stop}
+use Rattle.parts_model.specs.NewKeys.{keys_tested}
+use Rattle.parts_model.specs.declared.keys.Test.TheVariants.{Reserved, Repeated}
+use Rattle.parts_model.proofs.AllowLemmas.{may-go, may-stop}
 use Rattle.library_parts.proofs.contents.Contents.first_refusal.Goals as goal
 
 pub returns-in-Ok : goal.returns-in-Ok

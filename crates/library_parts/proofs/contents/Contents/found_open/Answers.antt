@@ -1,4 +1,4 @@
-use Rattle.library_parts.proofs.FindLemmas.{finds-none}
+use Rattle.parts_model.proofs.FindLemmas.{finds-none}
 use Rattle.library_parts.proofs.contents.Contents.found_open.Goals as goal
 
 pub unreachable-requires : goal.unreachable-requires

@@ -5,10 +5,10 @@ use Rattle.std.specs.Map.Iter.{deref_pair}
 use Rattle.lawful_states.proofs.NameLemmas.{some-equal}
 use Rattle.library_steps.specs.State.{FileState, memory_of}
 use Rattle.library_steps.specs.UniqueKeys.{uniques_by}
-use Rattle.library_parts.specs.Answers.{MayAllow}
-use Rattle.library_parts.specs.NewKeys.{IsKeptOver, new_in_paths, refused_by}
-use Rattle.library_parts.specs.Parts.{state_of}
-use Rattle.library_parts.proofs.FlatLemmas.{flat-at}
+use Rattle.parts_model.specs.Answers.{MayAllow}
+use Rattle.parts_model.specs.NewKeys.{IsKeptOver, new_in_paths, refused_by}
+use Rattle.parts_model.specs.Parts.{state_of}
+use Rattle.parts_model.proofs.FlatLemmas.{flat-at}
 use Rattle.library_parts.proofs.contents.Contents.free_at.Goals as goal
 
 pub free_of_file-requires-clause-kept : goal.free_of_file-requires-clause-kept

@@ -1,5 +1,5 @@
 use Rattle.std.proofs.Common.{◌≤◌, length, false, refl, arith}
-use Rattle.library_parts.proofs.AnswerLemmas.{AsksNone-of_open, AsksNone-unlocked, length-AsksNone}
+use Rattle.parts_model.proofs.AnswerLemmas.{AsksNone-of_open, AsksNone-unlocked, length-AsksNone}
 use Rattle.lawful_states.proofs.LawfulLemmas.{AreOne-locks}
 use Rattle.lawful_states.proofs.LockLemmas.{All-locks_after, running-HasBegun}
 use Rattle.library_parts.proofs.contents.Contents.free_for.Goals as goal

@@ -5,11 +5,11 @@ use Rattle.file_model.specs.Paths.{clash, path_key}
 use Rattle.library_steps.specs.Refusals.{refuse_with}
 use Rattle.library_steps.specs.State.{job_of, memory_of}
 use Rattle.library_steps.specs.Uses.{changes_in}
-use Rattle.library_parts.specs.Answers.{MayAllow}
-use Rattle.library_parts.specs.NewKeys.{keys_kept}
-use Rattle.library_parts.proofs.AllowLemmas.{may-end}
-use Rattle.library_parts.proofs.KeyLemmas.{key-at}
-use Rattle.library_parts.proofs.KeyPlanLemmas.{tested-repeated, tested-reserved}
+use Rattle.parts_model.specs.Answers.{MayAllow}
+use Rattle.parts_model.specs.NewKeys.{keys_kept}
+use Rattle.parts_model.proofs.AllowLemmas.{may-end}
+use Rattle.parts_model.proofs.KeyLemmas.{key-at}
+use Rattle.parts_model.proofs.KeyPlanLemmas.{tested-repeated, tested-reserved}
 use Rattle.library_parts.proofs.contents.Contents.free_in_file.Goals as goal
 
 pub not_reserved-requires-clause-path : goal.not_reserved-requires-clause-path

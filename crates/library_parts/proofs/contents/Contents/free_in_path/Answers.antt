@@ -2,11 +2,11 @@ use Rattle.std.proofs.Common.{Bool, Result, sym, subst}
 use Rattle.library_model.specs.declared.replies.Reply.{Reply}
 use Rattle.library_steps.specs.State.{memory_of}
 use Rattle.library_steps.specs.UniqueKeys.{UniquePath}
-use Rattle.library_parts.specs.Answers.{MayAllow}
-use Rattle.library_parts.specs.Parts.{state_of}
-use Rattle.library_parts.proofs.FreePaths.{kept-at, kept-formats, kept-old}
-use Rattle.library_parts.proofs.KeyLemmas.{asked-there}
-use Rattle.library_parts.proofs.KeyPlanLemmas.{path-told}
+use Rattle.parts_model.specs.Answers.{MayAllow}
+use Rattle.parts_model.specs.Parts.{state_of}
+use Rattle.parts_model.proofs.FreePaths.{kept-at, kept-formats, kept-old}
+use Rattle.parts_model.proofs.KeyLemmas.{asked-there}
+use Rattle.parts_model.proofs.KeyPlanLemmas.{path-told}
 use Rattle.library_parts.proofs.contents.Contents.free_in_path.Goals as goal
 
 pub free_in_file-requires-clause-path : goal.free_in_file-requires-clause-path

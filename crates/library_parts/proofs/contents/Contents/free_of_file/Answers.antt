@@ -2,10 +2,10 @@ use Rattle.std.proofs.Common.{◌∙◌, List, refl, sym, ap, subst}
 use Rattle.std.specs.List.{AllByRecursion}
 use Rattle.library_steps.specs.State.{memory_of}
 use Rattle.library_steps.specs.UniqueKeys.{UniquePath}
-use Rattle.library_parts.specs.Answers.{MayAllow}
-use Rattle.library_parts.specs.NewKeys.{IsKeptOver, new_in_paths, refused_by}
-use Rattle.library_parts.specs.Parts.{state_of}
-use Rattle.library_parts.proofs.KeyPlanLemmas.{refused-none}
+use Rattle.parts_model.specs.Answers.{MayAllow}
+use Rattle.parts_model.specs.NewKeys.{IsKeptOver, new_in_paths, refused_by}
+use Rattle.parts_model.specs.Parts.{state_of}
+use Rattle.parts_model.proofs.KeyPlanLemmas.{refused-none}
 use Rattle.library_parts.proofs.contents.Contents.free_of_file.Goals as goal
 
 pub free_in_path-requires-clause-kept : goal.free_in_path-requires-clause-kept

@@ -2,15 +2,15 @@ use Rattle.std.proofs.Common.{◌≡◌, ◌∙◌, ◌+◌, ◌-◌, List, Resu
 use Rattle.std.specs.List.{AllByRecursion}
 use Rattle.member_slots.specs.Members.{NumberedMembers, member_of}
 use Rattle.range_images.specs.declared.slot_given.SlotGiven.{SlotGiven}
-use Rattle.library_parts.specs.declared.stop.Stop.{Stop}
-use Rattle.library_parts.specs.Given.{given_to}
-use Rattle.library_parts.specs.Indexed.{HasBytes}
-use Rattle.library_parts.specs.Parts.{state_of}
+use Rattle.parts_model.specs.declared.stop.Stop.{Stop}
+use Rattle.parts_model.specs.Given.{given_to}
+use Rattle.parts_model.specs.Indexed.{HasBytes}
+use Rattle.parts_model.specs.Parts.{state_of}
 use Rattle.lawful_states.specs.Slots.{weight}
 use Rattle.lawful_states.proofs.DeleteLemmas.{bytes-without}
-use Rattle.library_parts.proofs.GivenKeys.{TellsAll, given-told}
-use Rattle.library_parts.proofs.GivenLemmas.{given-one}
-use Rattle.library_parts.proofs.GivenSteps.{giving-back, giving-indexed, giving-made, giving-shared, giving-undone}
+use Rattle.parts_model.proofs.GivenKeys.{TellsAll, given-told}
+use Rattle.parts_model.proofs.GivenLemmas.{given-one}
+use Rattle.parts_model.proofs.GivenSteps.{giving-back, giving-indexed, giving-made, giving-shared, giving-undone}
 use Rattle.lawful_states.proofs.MemberLemmas.{is_some-IsSome, member_of-with}
 use Rattle.library_parts.proofs.contents.Contents.give_slots.Goals as goal
 

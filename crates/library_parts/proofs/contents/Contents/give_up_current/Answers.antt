@@ -1,9 +1,9 @@
 use Rattle.std.proofs.Common.{refl}
 use Rattle.library_steps.specs.ChangeRecord.{without_current}
 use Rattle.lawful_states.proofs.BaseLemmas.{OpenHolds-alike}
-use Rattle.library_parts.proofs.IndexOpens.{IsIndexed-without_current}
+use Rattle.parts_model.proofs.IndexOpens.{IsIndexed-without_current}
 use Rattle.lawful_states.proofs.LawfulLemmas.{AreOne-open_changed}
-use Rattle.library_parts.proofs.DueLemmas.{HasDue-kept}
+use Rattle.parts_model.proofs.DueLemmas.{HasDue-kept}
 use Rattle.library_parts.proofs.contents.Contents.give_up_current.Goals as goal
 
 pub invariant_of-self : goal.invariant_of-self

@@ -1,7 +1,7 @@
 use Rattle.std.proofs.Common.{refl}
-use Rattle.library_parts.proofs.IndexOpens.{IsIndexed-without_record}
+use Rattle.parts_model.proofs.IndexOpens.{IsIndexed-without_record}
 use Rattle.lawful_states.proofs.LawfulLemmas.{AreOne-without_record}
-use Rattle.library_parts.proofs.DueLemmas.{HasDue-kept}
+use Rattle.parts_model.proofs.DueLemmas.{HasDue-kept}
 use Rattle.library_parts.proofs.contents.Contents.give_up_record.Goals as goal
 
 pub invariant_of-self : goal.invariant_of-self

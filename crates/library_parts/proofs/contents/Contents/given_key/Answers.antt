@@ -3,10 +3,10 @@ use Rattle.key_spec.specs.declared.KeyPart.{KeyPart}
 use Rattle.file_model.specs.KeyOrder.{merged_parts}
 use Rattle.library_steps.specs.LogicalFiles.{bases_in}
 use Rattle.library_steps.specs.Records.{is_keyed}
-use Rattle.library_parts.specs.Indexed.{path_read}
-use Rattle.library_parts.specs.Reads.{HasKeyOf}
-use Rattle.library_parts.proofs.PlaceLemmas.{gives-key}
-use Rattle.library_parts.proofs.ReadLemmas.{formats-by, order-keyed}
+use Rattle.parts_model.specs.Indexed.{path_read}
+use Rattle.parts_model.specs.Reads.{HasKeyOf}
+use Rattle.parts_model.proofs.PlaceLemmas.{gives-key}
+use Rattle.parts_model.proofs.ReadLemmas.{formats-by, order-keyed}
 use Rattle.library_parts.proofs.contents.Contents.given_key.Goals as goal
 
 pub returns : goal.returns

@@ -1,7 +1,7 @@
 use Rattle.library_steps.specs.State.{memory_of}
-use Rattle.library_parts.proofs.FreePaths.{IsFreeAt, free-over}
-use Rattle.library_parts.proofs.KeyLemmas.{asked-there}
-use Rattle.library_parts.proofs.UniqueOver.{done-end, done-first, done-next, left-fewer, next-there}
+use Rattle.parts_model.proofs.FreePaths.{IsFreeAt, free-over}
+use Rattle.parts_model.proofs.KeyLemmas.{asked-there}
+use Rattle.parts_model.proofs.UniqueOver.{done-end, done-first, done-next, left-fewer, next-there}
 use Rattle.library_parts.proofs.contents.Contents.has_free_keys.Goals as goal
 
 pub loop-path-init : goal.loop-path-init

@@ -1,6 +1,6 @@
 use Rattle.library_steps.specs.State.{memory_of}
-use Rattle.library_parts.proofs.FreePaths.{IsFreeAt}
-use Rattle.library_parts.proofs.UniqueOver.{AreDoneTo, left_from}
+use Rattle.parts_model.proofs.FreePaths.{IsFreeAt}
+use Rattle.parts_model.proofs.UniqueOver.{AreDoneTo, left_from}
 use Rattle.library_parts.proofs.contents.Contents.has_free_keys.Given as goal
 
 abbrev pub invariant-loop-path : goal.invariant-loop-path

@@ -1,4 +1,4 @@
-use Rattle.library_parts.proofs.KeyLemmas.{can-ask, key-told}
+use Rattle.parts_model.proofs.KeyLemmas.{can-ask, key-told}
 use Rattle.library_parts.proofs.contents.Contents.has_key.Goals as goal
 
 pub key-requires : goal.key-requires

@@ -4,7 +4,7 @@ use Rattle.logical_model.specs.SamePaths.{count_paths}
 use Rattle.library_steps.specs.declared.limits.TheConstants.{MOST_PATHS}
 use Rattle.library_steps.specs.LogicalFiles.{paths_over}
 use Rattle.library_steps.specs.State.{memory_of}
-use Rattle.library_parts.proofs.ManyPaths.{count-end, count-next, many-already, path-at}
+use Rattle.parts_model.proofs.ManyPaths.{count-end, count-next, many-already, path-at}
 use Rattle.library_parts.proofs.contents.Contents.has_many_with.Goals as goal
 
 pub loop-place-init : goal.loop-place-init

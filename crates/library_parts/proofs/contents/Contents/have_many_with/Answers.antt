@@ -6,7 +6,7 @@ use Rattle.logical_model.specs.FilePaths.{logical_paths}
 use Rattle.library_steps.specs.CreateLogicalFile.{has_many}
 use Rattle.library_steps.specs.LogicalFiles.{bases_of}
 use Rattle.library_steps.specs.State.{memory_of}
-use Rattle.library_parts.proofs.UnderLemmas.{all-dropped, any-more}
+use Rattle.parts_model.proofs.UnderLemmas.{all-dropped, any-more}
 use Rattle.library_parts.proofs.contents.Contents.have_many_with.Goals as goal
 
 pub loop-left-init : goal.loop-left-init

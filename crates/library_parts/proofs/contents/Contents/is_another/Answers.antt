@@ -1,8 +1,8 @@
 use Rattle.std.proofs.Common.{◌∙◌, take, sym}
 use Rattle.library_steps.specs.LogicalFiles.{paths_over}
 use Rattle.library_steps.specs.State.{memory_of}
-use Rattle.library_parts.specs.Parts.{state_of}
-use Rattle.library_parts.proofs.ManyPaths.{kept-told, new-told}
+use Rattle.parts_model.specs.Parts.{state_of}
+use Rattle.parts_model.proofs.ManyPaths.{kept-told, new-told}
 use Rattle.library_parts.proofs.contents.Contents.is_another.Goals as goal
 
 pub returns : goal.returns

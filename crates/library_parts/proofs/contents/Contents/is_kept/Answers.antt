@@ -1,8 +1,8 @@
 use Rattle.std.proofs.Common.{◌∙◌, sym}
 use Rattle.library_steps.specs.State.{job_of, memory_of}
 use Rattle.library_steps.specs.Uses.{changes_in}
-use Rattle.library_parts.proofs.FreeKeyLemmas.{kept-none}
-use Rattle.library_parts.proofs.ResultLemmas.{is_nothing}
+use Rattle.parts_model.proofs.FreeKeyLemmas.{kept-none}
+use Rattle.parts_model.proofs.ResultLemmas.{is_nothing}
 use Rattle.library_parts.proofs.contents.Contents.is_kept.Goals as goal
 
 pub returns-in-None : goal.returns-in-None

@@ -1,9 +1,9 @@
 use Rattle.std.proofs.Common.{◌∙◌, sym}
 use Rattle.file_model.specs.Paths.{path_key}
 use Rattle.library_steps.specs.State.{memory_of}
-use Rattle.library_parts.proofs.KeyLemmas.{clash-shown, key-at}
-use Rattle.library_parts.proofs.KeyPlanLemmas.{free-new, free-none}
-use Rattle.library_parts.proofs.ResultLemmas.{is_nothing}
+use Rattle.parts_model.proofs.KeyLemmas.{clash-shown, key-at}
+use Rattle.parts_model.proofs.KeyPlanLemmas.{free-new, free-none}
+use Rattle.parts_model.proofs.ResultLemmas.{is_nothing}
 use Rattle.library_parts.proofs.contents.Contents.is_refused_in.Goals as goal
 
 pub returns-in_default : goal.returns-in_default

@@ -1,6 +1,6 @@
 use Rattle.std.proofs.Common.{◌∙◌, Some, ap, sym}
 use Rattle.member_slots.specs.declared.slot.Slot.{Slot}
-use Rattle.library_parts.proofs.KeyLemmas.{asked-taken, if-told, takes-live}
+use Rattle.parts_model.proofs.KeyLemmas.{asked-taken, if-told, takes-live}
 use Rattle.library_parts.proofs.contents.Contents.is_taken_by.Goals as goal
 
 pub has_key-requires : goal.has_key-requires

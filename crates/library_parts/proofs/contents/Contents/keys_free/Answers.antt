@@ -1,7 +1,7 @@
 use Rattle.library_steps.specs.State.{memory_of}
-use Rattle.library_parts.specs.Parts.{joined}
-use Rattle.library_parts.proofs.FreePaths.{all-free}
-use Rattle.library_parts.proofs.NewRecords.{is-new}
+use Rattle.parts_model.specs.Parts.{joined}
+use Rattle.parts_model.proofs.FreePaths.{all-free}
+use Rattle.parts_model.proofs.NewRecords.{is-new}
 use Rattle.library_parts.proofs.contents.Contents.keys_free.Goals as goal
 
 pub has_free_keys-requires-clause-asked : goal.has_free_keys-requires-clause-asked

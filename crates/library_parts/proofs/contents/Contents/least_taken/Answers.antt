@@ -1,5 +1,5 @@
 use Rattle.std.proofs.Common.{◌≡◌, ◌+◌, ◌-◌, arith}
-use Rattle.library_parts.proofs.FreeKeyLemmas.{taken-at, undo-is}
+use Rattle.parts_model.proofs.FreeKeyLemmas.{taken-at, undo-is}
 use Rattle.library_parts.proofs.contents.Contents.least_taken.Goals as goal
 
 pub loop-left-preserved : goal.loop-left-preserved

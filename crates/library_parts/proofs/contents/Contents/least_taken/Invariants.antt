@@ -1,7 +1,7 @@
 use Rattle.std.proofs.Common.{◌≡◌, ◌≤◌, List, length, drop}
 use Rattle.file_model.specs.KeyOrder.{KeyValue}
 use Rattle.file_model.specs.declared.paths.PathFormat.{PathFormat}
-use Rattle.library_parts.specs.NewKeys.{IsKeyAt, least_of, taken}
+use Rattle.parts_model.specs.NewKeys.{IsKeyAt, least_of, taken}
 use Rattle.library_parts.proofs.contents.Contents.least_taken.Given as goal
 
 abbrev pub invariant-loop-left : goal.invariant-loop-left

@@ -5,10 +5,10 @@ use Rattle.file_model.specs.KeyOrder.{merged_parts}
 use Rattle.library_steps.specs.LogicalFiles.{bases_in}
 use Rattle.library_steps.specs.Records.{is_keyed}
 use Rattle.library_steps.specs.Refusals.{OpenedFile}
-use Rattle.library_parts.specs.Indexed.{path_read}
-use Rattle.library_parts.specs.Reads.{MayHaveKey, ReadsSo, TakesNumbers}
-use Rattle.library_parts.proofs.PlaceLemmas.{stands-high, stands-key, stands-low, stands-number}
-use Rattle.library_parts.proofs.ReadLemmas.{formats-by, order-keyed}
+use Rattle.parts_model.specs.Indexed.{path_read}
+use Rattle.parts_model.specs.Reads.{MayHaveKey, ReadsSo, TakesNumbers}
+use Rattle.parts_model.proofs.PlaceLemmas.{stands-high, stands-key, stands-low, stands-number}
+use Rattle.parts_model.proofs.ReadLemmas.{formats-by, order-keyed}
 use Rattle.library_parts.proofs.contents.Contents.may_stand.Goals as goal
 
 pub returns-in-Key : goal.returns-in-Key

@@ -1,6 +1,6 @@
 use Rattle.std.proofs.Common.{◌≡◌, Some, rules}
 use Rattle.library_model.specs.Named.{named}
-use Rattle.library_parts.proofs.LawfulLemmas.{IsLibrary-seen}
+use Rattle.parts_model.proofs.LawfulLemmas.{IsLibrary-seen}
 use Rattle.lawful_states.proofs.BaseLemmas.{physical-found}
 use Rattle.lawful_states.proofs.FindLemmas.{found-is, member-there}
 use Rattle.library_parts.proofs.contents.Contents.member_of_file.Goals as goal

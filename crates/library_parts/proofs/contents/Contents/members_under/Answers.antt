@@ -2,7 +2,7 @@ use Rattle.std.proofs.Common.{◌≡◌, ◌∙◌, ◌≤◌, ◌+◌, ◌++◌
 use Rattle.logical_model.specs.Bases.{base_members, base_names}
 use Rattle.library_steps.specs.LogicalFiles.{bases_of}
 use Rattle.library_steps.specs.State.{memory_of}
-use Rattle.library_parts.proofs.UnderLemmas.{all-taken, take-next}
+use Rattle.parts_model.proofs.UnderLemmas.{all-taken, take-next}
 use Rattle.library_parts.proofs.contents.Contents.members_under.Goals as goal
 
 pub loop-place-preserved : goal.loop-place-preserved

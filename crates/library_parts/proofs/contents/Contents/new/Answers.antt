@@ -1,5 +1,5 @@
 use Rattle.std.proofs.Common.{refl, arith}
-use Rattle.library_parts.proofs.IndexKeyed.{IsIndexed-empty}
+use Rattle.parts_model.proofs.IndexKeyed.{IsIndexed-empty}
 use Rattle.lawful_states.proofs.LawfulLemmas.{AreOne-empty}
 use Rattle.library_parts.proofs.contents.Contents.new.Goals as goal
 

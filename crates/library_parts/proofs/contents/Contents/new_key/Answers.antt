@@ -5,7 +5,7 @@ use Rattle.member_slots.specs.Member.{slot_at}
 use Rattle.member_slots.specs.Members.{member_of}
 use Rattle.library_steps.specs.Records.{slot_there}
 use Rattle.library_steps.specs.State.{memory_of}
-use Rattle.library_parts.proofs.KeyLemmas.{asked-stood, key-known, key-new, key-shown, slot-shown}
+use Rattle.parts_model.proofs.KeyLemmas.{asked-stood, key-known, key-new, key-shown, slot-shown}
 use Rattle.library_parts.proofs.contents.Contents.new_key.Goals as goal
 
 pub has_key-requires : goal.has_key-requires

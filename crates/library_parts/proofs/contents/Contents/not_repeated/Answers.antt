@@ -1,7 +1,7 @@
 use Rattle.std.proofs.Common.{◌∙◌, ℕ, Option, sym, ap}
 use Rattle.library_model.specs.declared.replies.Reply.TheVariants.{DuplicateKey}
 use Rattle.library_steps.specs.Refusals.{refuse_with}
-use Rattle.library_parts.proofs.KeyLemmas.{clash-shown}
+use Rattle.parts_model.proofs.KeyLemmas.{clash-shown}
 use Rattle.library_parts.proofs.contents.Contents.not_repeated.Goals as goal
 
 pub returns-in-Some : goal.returns-in-Some

@@ -12,16 +12,16 @@ use Rattle.library_steps.specs.Reads.{entry_found, has_read}
 use Rattle.library_steps.specs.Records.{is_keyed, reading_of}
 use Rattle.library_steps.specs.Refusals.{OpenedFile}
 use Rattle.library_steps.specs.State.{memory_of}
-use Rattle.library_parts.specs.Indexed.{IsUnjoined}
-use Rattle.library_parts.specs.Parts.{state_of}
-use Rattle.library_parts.specs.Reads.{IsLookedIn, ReadsAmong, formats_read, found_by, has_positions}
-use Rattle.library_parts.proofs.DueLemmas.{HasDue-kept}
-use Rattle.library_parts.proofs.KeepReads.{keeps-read}
-use Rattle.library_parts.proofs.IndexOpens.{IsIndexed-has_read}
+use Rattle.parts_model.specs.Indexed.{IsUnjoined}
+use Rattle.parts_model.specs.Parts.{state_of}
+use Rattle.parts_model.specs.Reads.{IsLookedIn, ReadsAmong, formats_read, found_by, has_positions}
+use Rattle.parts_model.proofs.DueLemmas.{HasDue-kept}
+use Rattle.parts_model.proofs.KeepReads.{keeps-read}
+use Rattle.parts_model.proofs.IndexOpens.{IsIndexed-has_read}
 use Rattle.lawful_states.proofs.LawfulLemmas.{AreOne-open_at}
-use Rattle.library_parts.proofs.NoteLemmas.{same-open}
-use Rattle.library_parts.proofs.PlaceLemmas.{found-same, of-number}
-use Rattle.library_parts.proofs.ReadLemmas.{mapped-some, noted}
+use Rattle.parts_model.proofs.NoteLemmas.{same-open}
+use Rattle.parts_model.proofs.PlaceLemmas.{found-same, of-number}
+use Rattle.parts_model.proofs.ReadLemmas.{mapped-some, noted}
 use Rattle.library_parts.proofs.contents.Contents.note_read.Goals as goal
 
 pub found_open-its-requires-clause-named : goal.found_open-its-requires-clause-named

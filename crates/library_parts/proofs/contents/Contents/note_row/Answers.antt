@@ -9,13 +9,13 @@ use Rattle.library_steps.specs.Refusals.{OpenedFile}
 use Rattle.library_steps.specs.State.{memory_of}
 use Rattle.logical_model.specs.Bases.{LogicalFile}
 use Rattle.path_set.specs.KeptPaths.{pages_at}
-use Rattle.library_parts.specs.Parts.{state_of}
-use Rattle.library_parts.proofs.DueLemmas.{HasDue-kept}
-use Rattle.library_parts.proofs.IndexOpens.{IsIndexed-row_read}
-use Rattle.library_parts.proofs.KeepReads.{keeps-read}
-use Rattle.library_parts.proofs.NoteRows.{along, row-can, row-low, row-placed}
-use Rattle.library_parts.proofs.PlaceLemmas.{found-same}
-use Rattle.library_parts.proofs.RowsOver.{path-paged, path-some}
+use Rattle.parts_model.specs.Parts.{state_of}
+use Rattle.parts_model.proofs.DueLemmas.{HasDue-kept}
+use Rattle.parts_model.proofs.IndexOpens.{IsIndexed-row_read}
+use Rattle.parts_model.proofs.KeepReads.{keeps-read}
+use Rattle.parts_model.proofs.NoteRows.{along, row-can, row-low, row-placed}
+use Rattle.parts_model.proofs.PlaceLemmas.{found-same}
+use Rattle.parts_model.proofs.RowsOver.{path-paged, path-some}
 use Rattle.library_parts.proofs.contents.Contents.note_row.Goals as goal
 
 pub found_open-its-requires-clause-named : goal.found_open-its-requires-clause-named

@@ -3,11 +3,11 @@ use Rattle.library_steps.specs.State.{job_at, or_new}
 use Rattle.library_steps.specs.SlotChange.{noted, with_cycle}
 use Rattle.lawful_states.specs.Jobs.{cycle_from}
 use Rattle.lawful_states.specs.Lawful.{GoesBack}
-use Rattle.library_parts.proofs.IndexChanges.{IsIndexed-noted}
-use Rattle.library_parts.proofs.IndexMoves.{spares-held}
+use Rattle.parts_model.proofs.IndexChanges.{IsIndexed-noted}
+use Rattle.parts_model.proofs.IndexMoves.{spares-held}
 use Rattle.lawful_states.proofs.LawfulLemmas.{AreOne-noted}
 use Rattle.lawful_states.proofs.BackLemmas.{CycleGoesBack-noted, CycleGoesBack-of}
-use Rattle.library_parts.proofs.DueLemmas.{HasDue-changed, few-noted, noted-due, some-mapped}
+use Rattle.parts_model.proofs.DueLemmas.{HasDue-changed, few-noted, noted-due, some-mapped}
 use Rattle.library_parts.proofs.contents.Contents.note_undo.Goals as goal
 
 pub invariant_of-self : goal.invariant_of-self

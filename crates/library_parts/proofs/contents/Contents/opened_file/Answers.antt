@@ -2,11 +2,11 @@ use Rattle.std.proofs.Common.{◌≡◌, Some, subst}
 use Rattle.library_model.specs.Named.{named}
 use Rattle.library_steps.specs.LogicalFiles.{bases_in}
 use Rattle.library_steps.specs.State.{memory_of, open_named}
-use Rattle.library_parts.specs.Parts.{state_of}
+use Rattle.parts_model.specs.Parts.{state_of}
 use Rattle.lawful_states.proofs.FindLemmas.{found-is, open-holds}
-use Rattle.library_parts.proofs.FindLemmas.{reads-member, view-of}
-use Rattle.library_parts.proofs.OpenLooks.{reads-named}
-use Rattle.library_parts.specs.Indexed.{ReadsFile}
+use Rattle.parts_model.proofs.FindLemmas.{reads-member, view-of}
+use Rattle.parts_model.proofs.OpenLooks.{reads-named}
+use Rattle.parts_model.specs.Indexed.{ReadsFile}
 use Rattle.library_parts.proofs.contents.Contents.opened_file.Goals as goal
 
 pub returns-clause-shows : goal.returns-clause-shows

@@ -1,4 +1,4 @@
-use Rattle.library_parts.proofs.FilledLemmas.{AreOne-passed}
+use Rattle.parts_model.proofs.FilledLemmas.{AreOne-passed}
 use Rattle.library_parts.proofs.contents.Contents.pass_numbers.Goals as goal
 
 pub invariant_of-self : goal.invariant_of-self

@@ -3,9 +3,9 @@ use Rattle.member_slots.specs.Members.{with_member}
 use Rattle.job_table.specs.Table.{changes_held}
 use Rattle.path_set.specs.MemberSteps.{paths_over}
 use Rattle.path_set.specs.RebuiltPaths.{AreRebuilt}
-use Rattle.library_parts.specs.Parts.{state_of}
-use Rattle.library_parts.proofs.FilledLemmas.{filled-records}
-use Rattle.library_parts.proofs.RemadeLemmas.{remade-can}
+use Rattle.parts_model.specs.Parts.{state_of}
+use Rattle.parts_model.proofs.FilledLemmas.{filled-records}
+use Rattle.parts_model.proofs.RemadeLemmas.{remade-can}
 use Rattle.library_parts.proofs.contents.Contents.paths_filled.Goals as goal
 
 pub prepare_rebuild-requires-clause-there : goal.prepare_rebuild-requires-clause-there

@@ -4,8 +4,8 @@ use Rattle.member_slots.specs.Members.{member_of, with_member}
 use Rattle.job_table.specs.Table.{changes_held}
 use Rattle.path_set.specs.MemberSteps.{paths_over}
 use Rattle.path_set.specs.RebuiltPaths.{AreRebuilt, CanBeRebuilt}
-use Rattle.library_parts.specs.Parts.{state_of}
-use Rattle.library_parts.proofs.RemadeLemmas.{found-member, reorganized-can}
+use Rattle.parts_model.specs.Parts.{state_of}
+use Rattle.parts_model.proofs.RemadeLemmas.{found-member, reorganized-can}
 use Rattle.library_parts.proofs.contents.Contents.paths_reorganized.Goals as goal
 
 pub prepare_rebuild-requires-clause-can : goal.prepare_rebuild-requires-clause-can

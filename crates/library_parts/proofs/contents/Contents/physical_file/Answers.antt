@@ -1,5 +1,5 @@
 use Rattle.std.proofs.Common.{◌∙◌, sym}
-use Rattle.library_parts.proofs.FindLemmas.{logical-shown, physical-kind, physical-shown}
+use Rattle.parts_model.proofs.FindLemmas.{logical-shown, physical-kind, physical-shown}
 use Rattle.library_parts.proofs.contents.Contents.physical_file.Goals as goal
 
 pub returns-in-Physical-clause-shows : goal.returns-in-Physical-clause-shows

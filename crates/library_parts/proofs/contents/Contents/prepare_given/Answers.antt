@@ -10,10 +10,10 @@ use Rattle.path_set.specs.RecordChanges.{HaveRoom, RecordChange}
 use Rattle.range_images.specs.Given.{AreInPlace}
 use Rattle.given_changes.specs.GivenChanges.{changes_given}
 use Rattle.job_table.specs.Table.{changes_held}
-use Rattle.library_parts.specs.Parts.{state_of}
-use Rattle.library_parts.proofs.GivenTakes.{given-asked, given-long, moves-and-room}
-use Rattle.library_parts.proofs.IndexPaths.{IsIndexed-roomier}
-use Rattle.library_parts.proofs.RemadeLemmas.{found-member}
+use Rattle.parts_model.specs.Parts.{state_of}
+use Rattle.parts_model.proofs.GivenTakes.{given-asked, given-long, moves-and-room}
+use Rattle.parts_model.proofs.IndexPaths.{IsIndexed-roomier}
+use Rattle.parts_model.proofs.RemadeLemmas.{found-member}
 use Rattle.library_parts.proofs.contents.Contents.prepare_given.Goals as goal
 
 pub image_changes-requires : goal.image_changes-requires

@@ -7,11 +7,11 @@ use Rattle.path_set.specs.declared.moves.PathMove.{PathMove}
 use Rattle.path_set.specs.MemberSteps.{slot_replaced}
 use Rattle.path_set.specs.RecordChanges.{TakeImage, HaveRoom, moves_in}
 use Rattle.job_table.specs.Table.{changes_held}
-use Rattle.library_parts.specs.Parts.{state_of}
-use Rattle.library_parts.proofs.IndexLaws.{laws}
-use Rattle.library_parts.proofs.IndexLooks.{takes-slot, takes-stood}
-use Rattle.library_parts.proofs.IndexPaths.{IsIndexed-roomier}
-use Rattle.library_parts.proofs.ResultLemmas.{if_ok-each}
+use Rattle.parts_model.specs.Parts.{state_of}
+use Rattle.parts_model.proofs.IndexLaws.{laws}
+use Rattle.parts_model.proofs.IndexLooks.{takes-slot, takes-stood}
+use Rattle.parts_model.proofs.IndexPaths.{IsIndexed-roomier}
+use Rattle.parts_model.proofs.ResultLemmas.{if_ok-each}
 use Rattle.library_parts.proofs.contents.Contents.prepare_moves.Goals as goal
 
 pub prepare-requires-clause-old : goal.prepare-requires-clause-old

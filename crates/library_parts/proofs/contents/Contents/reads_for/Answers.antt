@@ -13,10 +13,10 @@ use Rattle.library_steps.specs.State.{FileState}
 use Rattle.logical_model.specs.Bases.{FileSpec, PhysicalFile, LogicalFile}
 use Rattle.logical_model.specs.Formats.{has_key}
 use Rattle.view_records.specs.Steps.{own_path}
-use Rattle.library_parts.specs.Indexed.{IsView, ReadsRowsBy, path_by}
-use Rattle.library_parts.specs.Parts.{LibraryParts, joined}
-use Rattle.library_parts.specs.Reads.{ReadsFor, ReadsNew}
-use Rattle.library_parts.proofs.OpenLemmas.{if-ok-both, new-reads, view-there}
+use Rattle.parts_model.specs.Indexed.{IsView, ReadsRowsBy, path_by}
+use Rattle.parts_model.specs.Parts.{LibraryParts, joined}
+use Rattle.parts_model.specs.Reads.{ReadsFor, ReadsNew}
+use Rattle.parts_model.proofs.OpenLemmas.{if-ok-both, new-reads, view-there}
 use Rattle.library_parts.proofs.contents.Contents.reads_for.Goals as goal
 
 pub reads_logical-requires : goal.reads_logical-requires

@@ -1,6 +1,6 @@
 use Rattle.library_steps.specs.LogicalFiles.{bases_in}
-use Rattle.library_parts.specs.Indexed.{path_read}
-use Rattle.library_parts.proofs.ReadLemmas.{formats-by, order-keyed}
+use Rattle.parts_model.specs.Indexed.{path_read}
+use Rattle.parts_model.proofs.ReadLemmas.{formats-by, order-keyed}
 use Rattle.library_parts.proofs.contents.Contents.reads_keys.Goals as goal
 
 pub returns-clause-formats : goal.returns-clause-formats

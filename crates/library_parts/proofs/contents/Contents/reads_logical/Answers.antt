@@ -2,9 +2,9 @@ use Rattle.std.proofs.Common.{Some, map, sym, subst}
 use Rattle.file_model.specs.declared.paths.PathSpec.{PathSpec}
 use Rattle.library_steps.specs.LogicalFiles.{bases_in}
 use Rattle.open_position.specs.OpenStand.{AreFormatKeys}
-use Rattle.library_parts.specs.Reads.{ReadsNew}
-use Rattle.library_parts.proofs.FormatKeys.{view-keys}
-use Rattle.library_parts.proofs.OpenLemmas.{new-with-rows}
+use Rattle.parts_model.specs.Reads.{ReadsNew}
+use Rattle.parts_model.proofs.FormatKeys.{view-keys}
+use Rattle.parts_model.proofs.OpenLemmas.{new-with-rows}
 use Rattle.library_parts.proofs.contents.Contents.reads_logical.Goals as goal
 
 pub reads_by_path-requires : goal.reads_by_path-requires

@@ -3,7 +3,7 @@ use Rattle.file_model.specs.declared.paths.PathSpec.{PathSpec}
 use Rattle.file_model.specs.FilePaths.{physical_path}
 use Rattle.key_spec.specs.declared.KeySpec.{KeySpec}
 use Rattle.open_position.specs.OpenStand.{AreFormatKeys}
-use Rattle.library_parts.proofs.FormatKeys.{physical-keys}
+use Rattle.parts_model.proofs.FormatKeys.{physical-keys}
 use Rattle.library_parts.proofs.contents.Contents.reads_physical.Goals as goal
 
 pub reads_by_path-requires : goal.reads_by_path-requires

@@ -1,7 +1,7 @@
 use Rattle.library_steps.specs.LogicalFiles.{bases_in}
-use Rattle.library_parts.specs.Indexed.{path_read}
-use Rattle.library_parts.specs.Parts.{state_of}
-use Rattle.library_parts.proofs.ReadLemmas.{formats-by, formats-many, order-keyed, reads-among}
+use Rattle.parts_model.specs.Indexed.{path_read}
+use Rattle.parts_model.specs.Parts.{state_of}
+use Rattle.parts_model.proofs.ReadLemmas.{formats-by, formats-many, order-keyed, reads-among}
 use Rattle.library_parts.proofs.contents.Contents.reads_there.Goals as goal
 
 pub returns-clause-among : goal.returns-clause-among

@@ -5,10 +5,10 @@ use Rattle.library_steps.specs.DeleteFile.{without_members}
 use Rattle.library_steps.specs.Ranges.{library_bytes}
 use Rattle.library_steps.specs.State.{MemberStatus}
 use Rattle.path_set.specs.KeptPaths.{NumberedPaths, spare_of}
-use Rattle.library_parts.specs.Parts.{state_of}
-use Rattle.library_parts.specs.PathChanges.{detached_each, without_paths}
-use Rattle.library_parts.proofs.IndexDetached.{some-each}
-use Rattle.library_parts.proofs.IndexDeleted.{IsIndexed-without_file}
+use Rattle.parts_model.specs.Parts.{state_of}
+use Rattle.parts_model.specs.PathChanges.{detached_each, without_paths}
+use Rattle.parts_model.proofs.IndexDetached.{some-each}
+use Rattle.parts_model.proofs.IndexDeleted.{IsIndexed-without_file}
 use Rattle.lawful_states.proofs.DeleteLemmas.{AreOne-deleted, free-independent}
 use Rattle.library_parts.proofs.contents.Contents.remove_file.Goals as goal
 

@@ -1,7 +1,7 @@
 use Rattle.std.proofs.Common.{refl}
-use Rattle.library_parts.proofs.IndexOpens.{IsIndexed-without_open}
+use Rattle.parts_model.proofs.IndexOpens.{IsIndexed-without_open}
 use Rattle.lawful_states.proofs.LawfulLemmas.{AreOne-without_open}
-use Rattle.library_parts.proofs.DueLemmas.{HasDue-kept}
+use Rattle.parts_model.proofs.DueLemmas.{HasDue-kept}
 use Rattle.library_parts.proofs.contents.Contents.remove_open.Goals as goal
 
 pub invariant_of-self : goal.invariant_of-self

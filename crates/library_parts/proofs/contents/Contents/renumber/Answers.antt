@@ -1,5 +1,5 @@
 use Rattle.lawful_states.specs.declared.changes.StatusChange.TheVariants.{Renumbered}
-use Rattle.library_parts.proofs.IndexStatus.{IsIndexed-status}
+use Rattle.parts_model.proofs.IndexStatus.{IsIndexed-status}
 use Rattle.lawful_states.proofs.LawfulLemmas.{AreOne-status}
 use Rattle.library_parts.proofs.contents.Contents.renumber.Goals as goal
 

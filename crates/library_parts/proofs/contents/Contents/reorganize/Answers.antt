@@ -6,9 +6,9 @@ use Rattle.library_steps.specs.Ranges.{library_bytes}
 use Rattle.lawful_states.specs.Slots.{weight}
 use Rattle.lawful_states.proofs.MemberLemmas.{HasRecords-reorganized, weight-reorganized, member_of-with, is_some-IsSome}
 use Rattle.path_set.proofs.RebuildLemmas.{rebuilt-ties}
-use Rattle.library_parts.proofs.IndexMoves.{changes-held}
-use Rattle.library_parts.proofs.IndexRebuilt.{IsIndexed-rebuilt, bytes-reorganized}
-use Rattle.library_parts.proofs.IndexRecords.{bytes-member}
+use Rattle.parts_model.proofs.IndexMoves.{changes-held}
+use Rattle.parts_model.proofs.IndexRebuilt.{IsIndexed-rebuilt, bytes-reorganized}
+use Rattle.parts_model.proofs.IndexRecords.{bytes-member}
 use Rattle.lawful_states.proofs.LawfulLemmas.{AreOne-slots}
 use Rattle.library_parts.proofs.contents.Contents.reorganize.Goals as goal
 

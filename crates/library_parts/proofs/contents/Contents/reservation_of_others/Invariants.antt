@@ -2,7 +2,7 @@ use Rattle.std.proofs.Common.{◌≡◌, ◌+◌, ◌≤◌, List, length, drop}
 use Rattle.std.specs.Option.{option_map}
 use Rattle.file_model.specs.KeyOrder.{KeyValue}
 use Rattle.file_model.specs.declared.paths.PathFormat.{PathFormat}
-use Rattle.library_parts.specs.NewKeys.{IsKeyAt, least_reserved, reservation_of}
+use Rattle.parts_model.specs.NewKeys.{IsKeyAt, least_reserved, reservation_of}
 use Rattle.library_parts.proofs.contents.Contents.reservation_of_others.Given as goal
 
 abbrev pub invariant-loop-left : goal.invariant-loop-left

@@ -1,7 +1,7 @@
 use Rattle.std.proofs.Common.{◌+◌, refl}
 use Rattle.std.specs.Option.{option_map}
-use Rattle.library_parts.specs.NewKeys.{reservation_of}
-use Rattle.library_parts.proofs.FreeKeyLemmas.{have-at, reserved-other, reserved-own}
+use Rattle.parts_model.specs.NewKeys.{reservation_of}
+use Rattle.parts_model.proofs.FreeKeyLemmas.{have-at, reserved-other, reserved-own}
 use Rattle.library_parts.proofs.contents.Contents.reserved_from.Goals as goal
 
 pub returns-then-number-job : goal.returns-then-number-job

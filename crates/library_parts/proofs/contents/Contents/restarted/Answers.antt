@@ -1,5 +1,5 @@
 use Rattle.std.proofs.Common.{refl, arith}
-use Rattle.library_parts.proofs.IndexKeyed.{IsIndexed-empty}
+use Rattle.parts_model.proofs.IndexKeyed.{IsIndexed-empty}
 use Rattle.lawful_states.proofs.LawfulLemmas.{AreOne-empty, AreOne-journal}
 use Rattle.library_parts.proofs.contents.Contents.restarted.Goals as goal
 

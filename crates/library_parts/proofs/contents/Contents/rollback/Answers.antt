@@ -10,17 +10,17 @@ use Rattle.library_steps.specs.State.{memory_of, job_of, job_at, job_changed, or
 use Rattle.library_steps.specs.Locking.{is_committed}
 use Rattle.library_steps.specs.Uses.{changes_in}
 use Rattle.lawful_states.specs.Back.{members_back}
-use Rattle.library_parts.specs.Boundaries.{roll_drafts}
-use Rattle.library_parts.specs.Due.{cycle_due}
+use Rattle.parts_model.specs.Boundaries.{roll_drafts}
+use Rattle.parts_model.specs.Due.{cycle_due}
 use Rattle.lawful_states.specs.Lawful.{FitsPlace}
-use Rattle.library_parts.specs.Parts.{state_of}
+use Rattle.parts_model.specs.Parts.{state_of}
 use Rattle.lawful_states.proofs.BackLemmas.{CycleGoesBack-of}
-use Rattle.library_parts.proofs.UndoingLemmas.{can-take_back, indexed-as, undos-rolled_back}
-use Rattle.library_parts.proofs.DueLemmas.{HasDue-changed, job_due-part}
+use Rattle.parts_model.proofs.UndoingLemmas.{can-take_back, indexed-as, undos-rolled_back}
+use Rattle.parts_model.proofs.DueLemmas.{HasDue-changed, job_due-part}
 use Rattle.lawful_states.proofs.LawfulLemmas.{AreOne-journal}
 use Rattle.library_steps.specs.Commitment.{rolled_back_open, without_cycle}
 use Rattle.lawful_states.proofs.BoundaryLemmas.{AreOne-rolled_back, cycle-places}
-use Rattle.library_parts.proofs.BoundaryLemmas.{rollback-answers, rolled-due}
+use Rattle.parts_model.proofs.BoundaryLemmas.{rollback-answers, rolled-due}
 use Rattle.library_parts.proofs.contents.Contents.rollback.Goals as goal
 
 pub roll_back-requires-clause-fit : goal.roll_back-requires-clause-fit

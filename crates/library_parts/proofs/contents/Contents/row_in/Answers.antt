@@ -13,11 +13,11 @@ use Rattle.lawful_states.proofs.NameLemmas.{some-equal}
 use Rattle.library_steps.specs.LogicalFiles.{bases_in}
 use Rattle.library_steps.specs.State.{memory_of}
 use Rattle.path_set.specs.KeptPaths.{pages_at}
-use Rattle.library_parts.specs.Parts.{state_of}
+use Rattle.parts_model.specs.Parts.{state_of}
 use Rattle.logical_model.specs.FilePaths.{join_of}
-use Rattle.library_parts.specs.Rows.{FindsRow, row_found_by}
-use Rattle.library_parts.proofs.JoinFound.{AreRowsKnown, finds-as, given-out, row_found, rows-found}
-use Rattle.library_parts.proofs.RowsOver.{all-given, asked-there, join-same, path-is, path-some, rows-are, rows-over, rows-read, rows-some}
+use Rattle.parts_model.specs.Rows.{FindsRow, row_found_by}
+use Rattle.parts_model.proofs.JoinFound.{AreRowsKnown, finds-as, given-out, row_found, rows-found}
+use Rattle.parts_model.proofs.RowsOver.{all-given, asked-there, join-same, path-is, path-some, rows-are, rows-over, rows-read, rows-some}
 use Rattle.library_parts.proofs.contents.Contents.row_in.Goals as goal
 
 pub unwrap-rows-requires : goal.unwrap-rows-requires

@@ -4,9 +4,9 @@ use Rattle.library_steps.specs.LogicalFiles.{bases_in}
 use Rattle.library_steps.specs.State.{memory_of}
 use Rattle.logical_model.specs.FilePaths.{join_of}
 use Rattle.logical_model.specs.Formats.{row_at}
-use Rattle.library_parts.specs.Parts.{state_of}
-use Rattle.library_parts.specs.Rows.{images_found}
-use Rattle.library_parts.proofs.ShownRows.{row-images}
+use Rattle.parts_model.specs.Parts.{state_of}
+use Rattle.parts_model.specs.Rows.{images_found}
+use Rattle.parts_model.proofs.ShownRows.{row-images}
 use Rattle.library_parts.proofs.contents.Contents.row_values.Goals as goal
 
 pub values_shown-requires : goal.values_shown-requires

@@ -10,9 +10,9 @@ use Rattle.key_order.specs.KeyFields.{ArePositions}
 use Rattle.key_spec.specs.declared.KeyPart.{KeyPart}
 use Rattle.library_steps.specs.LogicalFiles.{bases_in}
 use Rattle.logical_model.specs.Bases.{LogicalFile}
-use Rattle.library_parts.specs.Parts.{LibraryParts}
-use Rattle.library_parts.specs.Indexed.{AreNumbersOf, rows_paths}
-use Rattle.library_parts.proofs.FormatKeys.{join-allowed, join-few}
+use Rattle.parts_model.specs.Parts.{LibraryParts}
+use Rattle.parts_model.specs.Indexed.{AreNumbersOf, rows_paths}
+use Rattle.parts_model.proofs.FormatKeys.{join-allowed, join-few}
 use Rattle.library_parts.proofs.contents.Contents.rows_joined.Goals as goal
 
 pub new-requires-clause-few : goal.new-requires-clause-few

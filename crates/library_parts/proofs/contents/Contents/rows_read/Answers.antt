@@ -3,7 +3,7 @@ use Rattle.dds_logical.specs.declared.views.LogicalSpec.{LogicalSpec}
 use Rattle.job_table.specs.Opens.{join_by}
 use Rattle.library_steps.specs.LogicalFiles.{bases_in}
 use Rattle.logical_model.specs.Bases.{LogicalFile}
-use Rattle.library_parts.specs.Indexed.{IsView, ReadsRowsBy}
+use Rattle.parts_model.specs.Indexed.{IsView, ReadsRowsBy}
 use Rattle.library_parts.proofs.contents.Contents.rows_read.Goals as goal
 
 pub rows_joined-requires-clause-keyed : goal.rows_joined-requires-clause-keyed

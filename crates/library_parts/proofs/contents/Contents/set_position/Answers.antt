@@ -8,10 +8,10 @@ use Rattle.library_steps.specs.LogicalFiles.{bases_in}
 use Rattle.library_steps.specs.Reads.{bound_asked, positioned}
 use Rattle.library_steps.specs.Refusals.{OpenedFile}
 use Rattle.lawful_states.proofs.BaseLemmas.{OpenHolds-positioned}
-use Rattle.library_parts.proofs.DueLemmas.{HasDue-kept}
-use Rattle.library_parts.proofs.IndexOpens.{IsIndexed-positioned}
+use Rattle.parts_model.proofs.DueLemmas.{HasDue-kept}
+use Rattle.parts_model.proofs.IndexOpens.{IsIndexed-positioned}
 use Rattle.lawful_states.proofs.LawfulLemmas.{AreOne-open_changed}
-use Rattle.library_parts.proofs.PlaceLemmas.{found-same, is-place, of-number, placed-there, stand-can, stand-is}
+use Rattle.parts_model.proofs.PlaceLemmas.{found-same, is-place, of-number, placed-there, stand-can, stand-is}
 use Rattle.library_parts.proofs.contents.Contents.set_position.Goals as goal
 
 pub found_open-its-requires-clause-named : goal.found_open-its-requires-clause-named

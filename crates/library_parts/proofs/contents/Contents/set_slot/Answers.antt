@@ -9,8 +9,8 @@ use Rattle.path_set.specs.RecordChanges.{moves_in}
 use Rattle.path_set.specs.MemberSteps.{slot_replaced}
 use Rattle.library_steps.specs.State.{FileState, fields_of}
 use Rattle.job_table.specs.Table.{changes_held}
-use Rattle.library_parts.proofs.IndexMoves.{IsIndexed-set, replace-back, replace-can, room-left, slot-stands}
-use Rattle.library_parts.proofs.IndexPaths.{room-fewer}
+use Rattle.parts_model.proofs.IndexMoves.{IsIndexed-set, replace-back, replace-can, room-left, slot-stands}
+use Rattle.parts_model.proofs.IndexPaths.{room-fewer}
 use Rattle.lawful_states.proofs.LawfulLemmas.{AreOne-changed}
 use Rattle.lawful_states.proofs.MemberLemmas.{HasRecords-member_of, HoldsValues-at}
 use Rattle.library_parts.proofs.contents.Contents.set_slot.Goals as goal

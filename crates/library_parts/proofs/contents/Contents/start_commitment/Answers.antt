@@ -1,10 +1,10 @@
 use Rattle.std.proofs.Common.{◌≡◌, ◌∙◌, Some, ap, arith}
 use Rattle.library_steps.specs.State.{job_at, or_new}
 use Rattle.library_steps.specs.Commitment.{with_level}
-use Rattle.library_parts.specs.Due.{level_due}
-use Rattle.library_parts.proofs.IndexOpens.{IsIndexed-with_level}
+use Rattle.parts_model.specs.Due.{level_due}
+use Rattle.parts_model.proofs.IndexOpens.{IsIndexed-with_level}
 use Rattle.lawful_states.proofs.LawfulLemmas.{AreOne-job_changed}
-use Rattle.library_parts.proofs.DueLemmas.{HasDue-changed, job_due-part}
+use Rattle.parts_model.proofs.DueLemmas.{HasDue-changed, job_due-part}
 use Rattle.library_parts.proofs.contents.Contents.start_commitment.Goals as goal
 
 pub invariant_of-self : goal.invariant_of-self

@@ -1,6 +1,6 @@
 use Rattle.std.proofs.Common.{sym}
 use Rattle.library_steps.specs.State.{memory_of}
-use Rattle.library_parts.specs.Parts.{state_of}
+use Rattle.parts_model.specs.Parts.{state_of}
 use Rattle.library_parts.proofs.contents.Contents.user_of.Goals as goal
 
 pub returns : goal.returns

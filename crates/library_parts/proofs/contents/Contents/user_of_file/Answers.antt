@@ -1,7 +1,7 @@
 use Rattle.std.proofs.Common.{◌∙◌, sym, ap}
 use Rattle.std.specs.Option.{option_copied}
 use Rattle.library_steps.specs.State.{memory_of}
-use Rattle.library_parts.proofs.UserKinds.{user-logical, user-physical}
+use Rattle.parts_model.proofs.UserKinds.{user-logical, user-physical}
 use Rattle.library_parts.proofs.contents.Contents.user_of_file.Goals as goal
 
 pub returns-in-Some : goal.returns-in-Some

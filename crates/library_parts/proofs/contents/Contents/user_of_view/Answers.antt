@@ -4,7 +4,7 @@ use Rattle.job_table.specs.Users.{first_opener}
 use Rattle.library_steps.specs.Checkpoint.{lesser}
 use Rattle.library_steps.specs.LogicalFiles.{bases_of}
 use Rattle.library_steps.specs.State.{memory_of}
-use Rattle.library_parts.specs.Parts.{state_of}
+use Rattle.parts_model.specs.Parts.{state_of}
 use Rattle.library_parts.proofs.contents.Contents.user_of_view.Goals as goal
 
 pub returns : goal.returns

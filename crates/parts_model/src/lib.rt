@@ -1,0 +1,17 @@
+//! What the parts of a library's memory are to each other, what each request finds in them and makes of them, and the laws of that. The definitions are in
+//! `specs/`; nothing runs. `library_parts` has the code. Begin with `specs/Parts.antt`, then `specs/Answers.antt` and `specs/Indexed.antt`.
+#![tactic(auto)]
+
+mod boundaries;
+mod finds;
+mod keys;
+mod reading;
+mod rows;
+mod stop;
+
+pub use boundaries::Origin;
+pub use finds::{MemberFound, OpenFound};
+pub use keys::{Reservation, Test};
+pub use reading::Found;
+pub use rows::RowFound;
+pub use stop::Stop;
