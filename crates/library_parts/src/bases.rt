@@ -3,18 +3,18 @@ ghost use Rattle.std.specs.Prelude.{◌≡◌, IfOk};
 ghost use Rattle.library_steps.specs.LogicalFiles.{bases_in};
 ghost use Rattle.logical_model.specs.Bases.{LogicalFile};
 ghost use Rattle.logical_model.specs.FilePaths.{logical_paths};
-ghost use Rattle.view_records.specs.Steps.{own_path};
+ghost use Rattle.parts_model.specs.Steps.{own_path};
 ghost use Rattle.parts_model.specs.Indexed.{rows_paths};
 
 use crate::contents::Contents;
-use dds_logical::LogicalSpec;
 use field_types::names::Name;
 use file_catalogue::Catalogue;
 use file_model::paths::PathSpec;
+use logical_model::dds_logical::LogicalSpec;
+use parts_model::view_records::logical_paths::bases::BaseFiles;
+use parts_model::view_records::logical_paths::paths::{logical_paths, own_path};
 use record_fmt::formats::Field;
 use std::alloc::AllocError;
-use view_records::logical_paths::bases::BaseFiles;
-use view_records::logical_paths::paths::{logical_paths, own_path};
 
 /// The files of a library as the base files of its logical files.
 #[derive(Clone, Copy)]

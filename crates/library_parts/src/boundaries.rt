@@ -5,9 +5,9 @@ ghost use Rattle.std.specs.List.{AllByRecursion};
 ghost use Rattle.entry_codec.specs.declared.kinds.EntryKind.TheVariants.{CommitCycleCommitted, CommitCycleRolledBack, CommitmentEnded};
 ghost use Rattle.journal_model.specs.Replay.{before_of};
 ghost use Rattle.journal_model.specs.Rollback.{change_drafts, undo_drafts, undo_kinds};
-ghost use Rattle.memory_journal.specs.Journal.{deposited};
-ghost use Rattle.path_set.specs.KeptPaths.{spare_of};
-ghost use Rattle.path_set.specs.RecordChanges.{paths_after, CanBeMade, count_in};
+ghost use Rattle.parts_model.specs.Journal.{deposited};
+ghost use Rattle.parts_model.specs.KeptPaths.{spare_of};
+ghost use Rattle.parts_model.specs.RecordChanges.{paths_after, CanBeMade, count_in};
 ghost use Rattle.library_model.specs.declared.replies.Reply.TheVariants.{Done};
 ghost use Rattle.library_steps.specs.State.{memory_of, job_at, job_of};
 ghost use Rattle.library_steps.specs.History.{is_running};
@@ -33,9 +33,9 @@ use field_types::names::Name;
 use job_table::{Undo, UndoParts, Undos};
 use member_slots::members::Members;
 use member_slots::slot::Slot;
-use memory_journal::MemoryJournal;
 use parts_model::Origin;
-use path_set::set::PathSet;
+use parts_model::memory_journal::MemoryJournal;
+use parts_model::path_set::set::PathSet;
 
 impl Contents {
     /// COMMIT: the end of the job's commit cycle is deposited, where one is open. Its boundary locks and the locks of its opens under

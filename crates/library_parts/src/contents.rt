@@ -11,8 +11,8 @@ use file_catalogue::Catalogue;
 use job_table::Jobs;
 use lock_table::LockTable;
 use member_slots::members::Members;
-use memory_journal::MemoryJournal;
-use path_set::set::PathSet;
+use parts_model::memory_journal::MemoryJournal;
+use parts_model::path_set::set::PathSet;
 use std::alloc::{AllocError, Global};
 use std::marker::Model;
 

@@ -1,7 +1,7 @@
 //! Depositing a list of drafts: whether sequences are left, room for all of them, and then one after the other.
 ghost use Rattle.std.specs.Prelude.{◌≡◌, ◌+◌, ◌≤◌, ◌++◌, Bool, List, IfOk, OnOk, length};
 ghost use Rattle.entry_codec.specs.declared.entries.Draft.{Draft};
-ghost use Rattle.memory_journal.specs.declared.journal.TheConstants.{LAST_BEFORE_DEPOSIT};
+ghost use Rattle.parts_model.below.memory_journal.specs.declared.journal.TheConstants.{LAST_BEFORE_DEPOSIT};
 ghost use Rattle.library_model.specs.declared.replies.Reply.{Reply};
 ghost use Rattle.library_steps.specs.declared.limits.TheConstants.{LAST_SEQUENCE};
 ghost use Rattle.library_steps.specs.State.{Memory, State, memory_of};

@@ -2,7 +2,7 @@
 ghost use Rattle.std.specs.Prelude.{◌≡◌, ℕ, ◌+◌, ◌<◌, ◌≤◌, ◌⊎◌, [], ◌∷◌, ◌++◌, Some, None, All, IsSome, IsTrue, IfOk, OnOk, OnErr, MatchOption, length};
 ghost use Rattle.std.specs.List.{AllByRecursion};
 ghost use Rattle.key_order.specs.declared.widths.TheConstants.{MOST_POSITIONS};
-ghost use Rattle.view_records.specs.KeyedViews.{HaveFewPairs};
+ghost use Rattle.parts_model.specs.KeyedViews.{HaveFewPairs};
 ghost use Rattle.library_steps.specs.CreatePhysicalFile.{formats_of, with_file};
 ghost use Rattle.library_steps.specs.CreateLogicalFile.{first_repeated, with_logical};
 ghost use Rattle.library_steps.specs.LogicalFiles.{bases_of};
@@ -20,9 +20,9 @@ ghost use Rattle.library_steps.specs.Ranges.{library_bytes};
 ghost use Rattle.file_catalogue.specs.Described.{Describes};
 ghost use Rattle.lawful_states.specs.Owners.{AreApart};
 ghost use Rattle.file_catalogue.specs.Views.{DescribesView};
-ghost use Rattle.path_set.specs.Repeated.{TellsRepeated};
-ghost use Rattle.path_set.specs.KeptPaths.{AreOver, spare_of};
-ghost use Rattle.path_set.specs.Sharing.{CanBeKept, IsNew, IsPut, IsShared};
+ghost use Rattle.parts_model.specs.Repeated.{TellsRepeated};
+ghost use Rattle.parts_model.specs.KeptPaths.{AreOver, spare_of};
+ghost use Rattle.parts_model.specs.Sharing.{CanBeKept, IsNew, IsPut, IsShared};
 ghost use Rattle.parts_model.specs.Answers.{MayAllow, MayAllowAny};
 ghost use Rattle.parts_model.specs.Files.{IsNewFile, IsNewMember, IsNewView};
 ghost use Rattle.parts_model.specs.PathChanges.{AreNumbers, ArePathsOf, ArePathsOfView, Attaches, AttachesNone, AttachesPath, detached_each, detached_from, member_path, without_path_over, without_paths};
@@ -30,8 +30,6 @@ ghost use Rattle.parts_model.specs.Rooms.{HasFileRoom, HasMemberRoom};
 
 use crate::contents::Contents;
 use crate::members::weight;
-use dds_logical::join_views::JoinedFile;
-use dds_logical::{LogicalFault, LogicalSpec};
 use dds_physical::PhysicalError;
 use field_types::names::Name;
 use field_types::texts::SourceText;
@@ -40,12 +38,14 @@ use file_model::paths::PathSpec;
 use key_order::widths::MOST_POSITIONS;
 use library_model::replies::Reply;
 use library_model::requests::{DeleteFile, FileMember};
+use logical_model::dds_logical::join_views::JoinedFile;
+use logical_model::dds_logical::{LogicalFault, LogicalSpec};
 use member_paths::member_path;
 use member_slots::member::Member;
 use member_slots::members::Members;
 use parts_model::Stop;
-use path_set::faults::PathFault;
-use path_set::set::PathSet;
+use parts_model::path_set::faults::PathFault;
+use parts_model::path_set::set::PathSet;
 use std::alloc::{AllocError, Global};
 
 impl Contents {

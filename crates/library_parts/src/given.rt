@@ -2,9 +2,9 @@
 ghost use Rattle.std.specs.Prelude.{◌≡◌, ℕ, ◌+◌, ◌<◌, ◌≤◌, true, false, List, [], ◌∷◌, length, Some, None, IsSome, IfOk, OnErr, OnOk, slice_get};
 ghost use Rattle.std.specs.List.{AllByRecursion};
 ghost use Rattle.member_slots.specs.Members.{item_at, member_at, member_of, spare_at};
-ghost use Rattle.path_set.specs.EqualKeys.{repeated_of};
-ghost use Rattle.path_set.specs.KeptPaths.{KeptPath};
-ghost use Rattle.path_set.specs.MemberSteps.{is_over};
+ghost use Rattle.parts_model.specs.EqualKeys.{repeated_of};
+ghost use Rattle.parts_model.specs.KeptPaths.{KeptPath};
+ghost use Rattle.parts_model.specs.MemberSteps.{is_over};
 ghost use Rattle.range_images.specs.Given.{given_slots};
 ghost use Rattle.logical_model.specs.Bases.{LogicalFile};
 ghost use Rattle.library_model.specs.Named.{Named};
@@ -13,27 +13,27 @@ ghost use Rattle.library_steps.specs.UniqueKeys.{all_apart, has_member, own_uniq
 ghost use Rattle.parts_model.specs.Answers.{MayAllow};
 ghost use Rattle.parts_model.specs.Given.{AreMovesOfAll, AreTold, CanTake, HasRoomFor, IsTold, MayGive, members_given, unique_of, with_given};
 ghost use Rattle.parts_model.specs.Indexed.{AreViews, HasBytes};
-ghost use Rattle.dds_logical.specs.declared.views.LogicalSpec.TheVariants.{Join, Simple};
+ghost use Rattle.logical_model.below.dds_logical.specs.declared.views.LogicalSpec.TheVariants.{Join, Simple};
 
 use crate::bases::LibraryBases;
 use crate::contents::Contents;
 use crate::members::{changes_with, of_bytes, weight};
-use dds_logical::join_views::JoinView;
-use dds_logical::views::{LogicalSpec, View};
 use field_types::names::Name;
 use file_catalogue::{Catalogue, Described, File, FileBody};
 use file_model::paths::PathSpec;
-use given_changes::image_changes;
 use library_model::replies::Reply;
+use logical_model::dds_logical::join_views::JoinView;
+use logical_model::dds_logical::views::{LogicalSpec, View};
 use member_paths::member_path;
 use member_slots::members::Members;
 use member_slots::slot::Slot;
 use parts_model::Stop;
-use path_set::moves::Moves;
-use path_set::set::PathSet;
+use parts_model::given_changes::image_changes;
+use parts_model::path_set::moves::Moves;
+use parts_model::path_set::set::PathSet;
+use parts_model::view_records::logical_paths::paths::own_path;
 use range_images::SlotGiven;
 use std::alloc::{AllocError, Global};
-use view_records::logical_paths::paths::own_path;
 
 impl Contents {
     /// The moves that giving these slots to the member makes in all paths, with memory for them and for taking them back. Nothing is

@@ -5,8 +5,8 @@ ghost use Rattle.library_steps.specs.Change.{deposited};
 ghost use Rattle.library_steps.specs.Receivers.{last_in, given_up};
 ghost use Rattle.library_steps.specs.State.{memory_of, with_entries};
 ghost use Rattle.journal_model.specs.Journal.{AreNumbered};
-ghost use Rattle.memory_journal.specs.declared.journal.TheConstants.{LAST_BEFORE_DEPOSIT};
-ghost use Rattle.memory_journal.specs.Journal.{fault_reply};
+ghost use Rattle.parts_model.below.memory_journal.specs.declared.journal.TheConstants.{LAST_BEFORE_DEPOSIT};
+ghost use Rattle.parts_model.specs.Journal.{fault_reply};
 ghost use Rattle.parts_model.specs.declared.stop.Stop.TheVariants.{Refused};
 ghost use Rattle.parts_model.specs.Answers.{Shows};
 ghost use Rattle.parts_model.specs.Finds.{entries_read};
@@ -14,8 +14,8 @@ ghost use Rattle.parts_model.specs.Finds.{entries_read};
 use crate::contents::Contents;
 use entry_codec::{Draft, Entry};
 use library_model::replies::Reply;
-use memory_journal::JournalFault;
 use parts_model::Stop;
+use parts_model::memory_journal::JournalFault;
 
 impl Contents {
     /// The first sequence that is kept, or would be, and the number of the last entry.

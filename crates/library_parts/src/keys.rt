@@ -7,7 +7,7 @@ ghost use Rattle.file_model.specs.Paths.{clash};
 ghost use Rattle.library_model.specs.declared.replies.Reply.TheVariants.{DuplicateKey};
 ghost use Rattle.library_steps.specs.Refusals.{refuse_with};
 ghost use Rattle.journal_model.specs.Rollback.{MemberChange};
-ghost use Rattle.path_set.specs.Formats.{IsAskable};
+ghost use Rattle.parts_model.specs.Formats.{IsAskable};
 ghost use Rattle.parts_model.specs.NewKeys.{AllAreAskedBefore, AreAskedBefore, AreFreeIn, IsAskedBefore, IsFormatAt, IsKeptOver, IsKeyAt, IsNewFor, MayBeAsked, ShowsKey, first_reserved, keys_kept, keys_tested, least_of, least_reserved, lesser_of, new_in_paths, own_reserved, refused_by, reservation_of, taken, tested};
 ghost use Rattle.member_slots.specs.declared.slot.Slot.TheVariants.{Live};
 ghost use Rattle.member_slots.specs.Member.{FitsSlot};

@@ -5,7 +5,7 @@ ghost use Rattle.member_slots.specs.declared.slot.Slot.TheVariants.{Live, Delete
 ghost use Rattle.member_slots.specs.Member.{FitsSlot, cleared, is_full, reorganized, slot_at};
 ghost use Rattle.member_slots.specs.Members.{AreMembers, member_at, member_of, with_item};
 ghost use Rattle.key_order.specs.KeyFields.{AreBytes};
-ghost use Rattle.path_set.specs.MemberSteps.{image_in};
+ghost use Rattle.parts_model.specs.MemberSteps.{image_in};
 ghost use Rattle.library_steps.specs.declared.limits.TheConstants.{MOST_LIBRARY_BYTES};
 ghost use Rattle.library_steps.specs.Ranges.{library_bytes};
 ghost use Rattle.library_steps.specs.Records.{slot_there};
@@ -26,8 +26,8 @@ use field_types::texts::Image;
 use member_slots::member::Member;
 use member_slots::members::Members;
 use member_slots::slot::Slot;
-use path_set::moves::Moves;
-use path_set::rebuilding::Rebuilt;
+use parts_model::path_set::moves::Moves;
+use parts_model::path_set::rebuilding::Rebuilt;
 use std::alloc::{AllocError, Global};
 
 /// A slot that stood at a place, and the moves that put it back in all paths.

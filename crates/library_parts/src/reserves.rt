@@ -4,7 +4,7 @@ ghost use Rattle.member_slots.specs.Members.{member_at};
 ghost use Rattle.library_steps.specs.Change.{deposited};
 ghost use Rattle.library_steps.specs.State.{memory_of, job_at};
 ghost use Rattle.library_steps.specs.History.{is_running};
-ghost use Rattle.memory_journal.specs.declared.journal.TheConstants.{LAST_BEFORE_DEPOSIT};
+ghost use Rattle.parts_model.below.memory_journal.specs.declared.journal.TheConstants.{LAST_BEFORE_DEPOSIT};
 ghost use Rattle.parts_model.specs.Locks.{HasLockRoom};
 ghost use Rattle.parts_model.specs.Rooms.{HasFileRoom, HasMemberRoom, HasSlotRoom, HasUndoRoom, spare_slots};
 

@@ -1,7 +1,7 @@
 //! What a restart puts into a library: the entries of its journal, numbers that were given before, and all slots of a member.
 ghost use Rattle.std.specs.Prelude.{◌≡◌, ◌≤◌, length, IfOk, IsSome};
 ghost use Rattle.journal_model.specs.Journal.{AreNumbered};
-ghost use Rattle.memory_journal.specs.declared.journal.TheConstants.{LAST_NUMBER};
+ghost use Rattle.parts_model.below.memory_journal.specs.declared.journal.TheConstants.{LAST_NUMBER};
 ghost use Rattle.member_slots.specs.Members.{member_at, with_member};
 ghost use Rattle.library_steps.specs.MemberCommands.{with_slots};
 ghost use Rattle.library_steps.specs.State.{memory_of};
@@ -16,9 +16,9 @@ use job_table::Jobs;
 use lock_table::LockTable;
 use member_slots::member::Member;
 use member_slots::members::Members;
-use memory_journal::MemoryJournal;
-use path_set::rebuilding::Rebuilt;
-use path_set::set::PathSet;
+use parts_model::memory_journal::MemoryJournal;
+use parts_model::path_set::rebuilding::Rebuilt;
+use parts_model::path_set::set::PathSet;
 use std::alloc::{AllocError, Global};
 
 impl Contents {

@@ -1,11 +1,11 @@
 //! The rows of a join file: what a read through an open finds among them, what a row shows, and where the open stands then.
 ghost use Rattle.std.specs.Prelude.{◌≡◌, All, Ok, Some, IfOk, IsSome, IsTrue, map};
 ghost use Rattle.std.specs.List.{AllByRecursion};
-ghost use Rattle.dds_logical.specs.declared.views.LogicalSpec.TheVariants.{Join};
+ghost use Rattle.logical_model.below.dds_logical.specs.declared.views.LogicalSpec.TheVariants.{Join};
 ghost use Rattle.file_model.specs.FilePaths.{key_parts};
 ghost use Rattle.file_model.specs.Joins.{RowPlace};
 ghost use Rattle.job_table.specs.RowReads.{IsAskedOf};
-ghost use Rattle.join_records.specs.Numbers.{matched_number};
+ghost use Rattle.parts_model.specs.Numbers.{matched_number};
 ghost use Rattle.key_order.specs.KeyFields.{AreBytes};
 ghost use Rattle.library_model.specs.Named.{named};
 ghost use Rattle.library_steps.specs.History.{is_running};
@@ -15,7 +15,7 @@ ghost use Rattle.library_steps.specs.Refusals.{OpenedFile, opened_file};
 ghost use Rattle.library_steps.specs.State.{job_at, memory_of, with_job};
 ghost use Rattle.logical_model.specs.Bases.{LogicalFile};
 ghost use Rattle.logical_model.specs.Formats.{row_shown};
-ghost use Rattle.path_set.specs.KeptPaths.{pages_at};
+ghost use Rattle.parts_model.specs.KeptPaths.{pages_at};
 ghost use Rattle.parts_model.specs.Reads.{ReadsAs};
 ghost use Rattle.parts_model.specs.Rows.{CanNoteRow, FindsRow, HoldDefaultsOf, IsRowAt, ReadsRows, images_found, row_found_by};
 
@@ -24,25 +24,25 @@ use crate::contents::Contents;
 use crate::texts::are_bytes;
 use access_path::path::Path;
 use access_path::paths::Paths;
-use dds_logical::join_views::JoinView;
 use field_types::names::Name;
 use field_types::values::Value;
 use file_catalogue::File;
 use file_model::joins::{JoinSpec, Secondary};
 use job_table::join_position::laws::found_rows_are_at_their_places;
 use job_table::{Open, RowRead};
-use join_records::join_rows::rows::{JoinFile, Row};
-use join_records::join_rows::trials::image_at;
-use join_records::laws::{joins_can_be_read, rows_are_made_of_records};
-use join_records::shown::values_shown;
 use key_pages::Entry;
 use lock_table::Call;
+use logical_model::dds_logical::join_views::JoinView;
 use member_slots::members::Members;
-use open_position::reads::ReadBy;
 use parts_model::RowFound;
-use path_set::set::PathSet;
+use parts_model::join_records::join_rows::rows::{JoinFile, Row};
+use parts_model::join_records::join_rows::trials::image_at;
+use parts_model::join_records::laws::{joins_can_be_read, rows_are_made_of_records};
+use parts_model::join_records::shown::values_shown;
+use parts_model::open_position::reads::ReadBy;
+use parts_model::path_set::set::PathSet;
+use parts_model::view_records::logical_paths::readings::join_of;
 use std::alloc::{AllocError, Global};
-use view_records::logical_paths::readings::join_of;
 
 impl Contents {
     /// The row that a read through the open of a join finds.

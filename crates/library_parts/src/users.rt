@@ -2,7 +2,7 @@
 //! file, and the members that a logical file is over.
 ghost use Rattle.std.specs.Prelude.{◌≡◌, ℕ, ◌+◌, ◌<◌, ◌≤◌, not, if◌then◌else◌, Some, ◌++◌, ◌&&◌, ◌||◌, length, map, filter, take, slice_get, IfOk};
 ghost use Rattle.std.specs.List.{list_any};
-ghost use Rattle.dds_logical.specs.declared.views.LogicalSpec.TheVariants.{Join, Multi};
+ghost use Rattle.logical_model.below.dds_logical.specs.declared.views.LogicalSpec.TheVariants.{Join, Multi};
 ghost use Rattle.file_model.specs.declared.paths.PathSpec.{PathSpec};
 ghost use Rattle.logical_model.specs.Bases.{base_members, base_names};
 ghost use Rattle.logical_model.specs.FilePaths.{is_over, logical_paths};
@@ -19,8 +19,6 @@ ghost use Rattle.job_table.specs.Users.{first_changer, least_of_members};
 ghost use Rattle.parts_model.specs.Answers.{Shows};
 
 use crate::contents::Contents;
-use dds_logical::join_views::{JoinView, JoinedFile};
-use dds_logical::{LogicalSpec, View};
 use field_types::lists::ListOf;
 use field_types::names::Name;
 use file_catalogue::{File, MemberStatus, Members};
@@ -28,8 +26,10 @@ use file_model::paths::PathSpec;
 use job_table::laws::{users_are_joined, view_users_are_joined};
 use job_table::lesser;
 use library_steps::limits::MOST_PATHS;
+use logical_model::dds_logical::join_views::{JoinView, JoinedFile};
+use logical_model::dds_logical::{LogicalSpec, View};
 use parts_model::Stop;
-use path_set::path_entrants::same::is_same;
+use parts_model::path_set::path_entrants::same::is_same;
 use std::alloc::AllocError;
 
 impl Contents {

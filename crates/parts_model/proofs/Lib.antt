@@ -64,3 +64,4 @@ pub mod JoinFound
 pub mod ShownRows
 pub mod NoteRows
 pub mod DepositLemmas
+pub use Rattle.path_set.proofs.RebuildLemmas

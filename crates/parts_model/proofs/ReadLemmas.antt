@@ -29,8 +29,8 @@ use Rattle.file_model.specs.Selection.{selects}
 use Rattle.file_model.proofs.PathLemmas.{all-map, all-append}
 use Rattle.access_path.specs.PathBytes.{IsInBytes}
 use Rattle.access_path.proofs.OrderedLemmas.{all-in_order}
-use Rattle.dds_logical.specs.declared.views.LogicalSpec.TheVariants.{Simple, Multi, Join}
-use Rattle.dds_logical.specs.declared.views.View.{View}
+use Rattle.logical_model.below.dds_logical.specs.declared.views.LogicalSpec.TheVariants.{Simple, Multi, Join}
+use Rattle.logical_model.below.dds_logical.specs.declared.views.View.{View}
 use Rattle.logical_model.specs.Bases.{Bases, FileSpec, PhysicalFile, LogicalFile, base_members, base_names}
 use Rattle.logical_model.specs.FilePaths.{view_format, views_path}
 use Rattle.logical_model.specs.Formats.{has_key, format_names}

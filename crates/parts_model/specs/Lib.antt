@@ -19,3 +19,22 @@ pub mod Filled
 pub mod Rows
 pub mod Deposits
 pub mod Sizes
+pub use Rattle.file_cursor.specs.CursorPosition
+pub use Rattle.file_cursor.specs.Reading
+pub use Rattle.given_changes.specs.GivenChanges
+pub use Rattle.join_records.specs.Numbers
+pub use Rattle.join_records.specs.Shown
+pub use Rattle.memory_journal.specs.Journal
+pub use Rattle.open_position.specs.OpenStand
+pub use Rattle.open_position.specs.Reads as OpenPositionReads
+pub use Rattle.path_set.specs.EqualKeys
+pub use Rattle.path_set.specs.Formats
+pub use Rattle.path_set.specs.KeptPaths
+pub use Rattle.path_set.specs.ManyChanges
+pub use Rattle.path_set.specs.MemberSteps
+pub use Rattle.path_set.specs.RebuiltPaths
+pub use Rattle.path_set.specs.RecordChanges
+pub use Rattle.path_set.specs.Repeated
+pub use Rattle.path_set.specs.Sharing
+pub use Rattle.view_records.specs.KeyedViews
+pub use Rattle.view_records.specs.Steps

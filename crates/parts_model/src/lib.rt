@@ -10,8 +10,15 @@ mod rows;
 mod stop;
 
 pub use boundaries::Origin;
+pub use file_cursor;
 pub use finds::{MemberFound, OpenFound};
+pub use given_changes;
+pub use join_records;
 pub use keys::{Reservation, Test};
+pub use memory_journal;
+pub use open_position;
+pub use path_set;
 pub use reading::Found;
 pub use rows::RowFound;
 pub use stop::Stop;
+pub use view_records;

@@ -2,7 +2,7 @@ use Rattle.std.proofs.Common.{◌∙◌, length, option_to_list, Some, Option, a
 use Rattle.entry_codec.specs.declared.entries.Draft.{Draft}
 use Rattle.entry_codec.specs.declared.kinds.EntryKind.TheVariants.{CommitCycleRolledBack}
 use Rattle.journal_model.specs.Rollback.{undo_drafts}
-use Rattle.memory_journal.specs.Journal.{deposited}
+use Rattle.parts_model.specs.Journal.{deposited}
 use Rattle.parts_model.specs.Boundaries.{cycle_end}
 use Rattle.parts_model.proofs.BoundaryLemmas.{deposited-append, length-end}
 use Rattle.library_parts.proofs.boundaries.roll_back.Goals as goal

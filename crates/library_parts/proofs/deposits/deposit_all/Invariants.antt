@@ -1,6 +1,6 @@
 use Rattle.std.proofs.Common.{◌≡◌, ◌+◌, ◌≤◌, length}
 use Rattle.std.specs.Vec.Iter.{into_iter_items, into_iter_len}
-use Rattle.memory_journal.specs.declared.journal.TheConstants.{LAST_BEFORE_DEPOSIT}
+use Rattle.parts_model.below.memory_journal.specs.declared.journal.TheConstants.{LAST_BEFORE_DEPOSIT}
 use Rattle.library_steps.specs.State.{memory_of}
 use Rattle.parts_model.specs.Deposits.{with_drafts}
 use Rattle.library_parts.proofs.deposits.deposit_all.Given as goal

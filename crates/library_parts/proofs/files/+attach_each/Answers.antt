@@ -2,7 +2,7 @@ use Rattle.std.proofs.Common.{◌≡◌, ◌∙◌, ◌++◌, [], ◌∷◌, Lis
 use Rattle.std.specs.Prelude.{All}
 use Rattle.std.specs.Option.{option_to_list}
 use Rattle.file_model.specs.declared.paths.PathSpec.{PathSpec}
-use Rattle.path_set.specs.Sharing.{CanBeKept}
+use Rattle.parts_model.specs.Sharing.{CanBeKept}
 use Rattle.parts_model.specs.PathChanges.{Attaches, AttachesNone}
 use Rattle.parts_model.proofs.ManyAttached.{all-front, all-last, attaches-last, attaches-none, undone-last, undone-none}
 use Rattle.parts_model.proofs.AttachLemmas.{none-listed}

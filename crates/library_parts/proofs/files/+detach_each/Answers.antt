@@ -1,6 +1,6 @@
 use Rattle.std.proofs.Common.{◌∙◌, ◌-◌, IsSome, drop, length, subst, take}
 use Rattle.member_slots.specs.Members.{item_at}
-use Rattle.path_set.specs.KeptPaths.{NumberedPaths}
+use Rattle.parts_model.specs.KeptPaths.{NumberedPaths}
 use Rattle.parts_model.proofs.IndexDetached.{some-each}
 use Rattle.library_parts.proofs.files.+detach_each.Goals as goal
 

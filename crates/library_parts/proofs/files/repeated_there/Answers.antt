@@ -1,6 +1,6 @@
 use Rattle.std.proofs.Common.{◌∙◌, inr, ap}
 use Rattle.std.specs.Option.{option_map}
-use Rattle.path_set.specs.declared.repeated.Repeated.{Repeated}
+use Rattle.parts_model.below.path_set.specs.declared.repeated.Repeated.{Repeated}
 use Rattle.parts_model.proofs.AttachLemmas.{there-repeated}
 use Rattle.library_parts.proofs.files.repeated_there.Goals as goal
 

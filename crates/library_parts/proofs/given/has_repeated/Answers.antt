@@ -1,5 +1,5 @@
 use Rattle.std.proofs.Common.{◌≡◌, ◌∙◌, None, sym}
-use Rattle.path_set.specs.EqualKeys.{repeated_of}
+use Rattle.parts_model.specs.EqualKeys.{repeated_of}
 use Rattle.parts_model.proofs.ApartLemmas.{none-there}
 use Rattle.parts_model.proofs.ResultLemmas.{is_nothing}
 use Rattle.parts_model.proofs.UniqueOver.{done-end, done-first, done-next, left-fewer}

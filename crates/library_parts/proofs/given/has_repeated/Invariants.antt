@@ -1,5 +1,5 @@
 use Rattle.std.proofs.Common.{◌≡◌, None}
-use Rattle.path_set.specs.EqualKeys.{repeated_of}
+use Rattle.parts_model.specs.EqualKeys.{repeated_of}
 use Rattle.parts_model.proofs.UniqueOver.{AreDoneTo, left_from}
 use Rattle.library_parts.proofs.given.has_repeated.Given as goal
 

@@ -1,11 +1,11 @@
 use Rattle.std.proofs.Common.{◌∙◌, List, IfSome, sym, subst}
 use Rattle.key_spec.specs.declared.KeyPart.{KeyPart}
 use Rattle.key_pages.specs.EntryList.{EntryList}
-use Rattle.file_cursor.specs.CursorPosition.{entry_of}
-use Rattle.file_cursor.specs.Reading.{AreNumbered}
-use Rattle.file_cursor.specs.declared.places.Order.TheVariants.{Path}
-use Rattle.open_position.specs.OpenStand.{IsEntryIn}
-use Rattle.open_position.specs.Reads.{IsAskedOf, IsPathOver}
+use Rattle.parts_model.specs.CursorPosition.{entry_of}
+use Rattle.parts_model.specs.Reading.{AreNumbered}
+use Rattle.parts_model.below.file_cursor.specs.declared.places.Order.TheVariants.{Path}
+use Rattle.parts_model.specs.OpenStand.{IsEntryIn}
+use Rattle.parts_model.specs.OpenPositionReads.{IsAskedOf, IsPathOver}
 use Rattle.parts_model.proofs.HitLemmas.{copied-is, copied-some, found-elsewhere, looked-along}
 use Rattle.library_parts.proofs.reading.hit_along.Goals as goal
 

@@ -1,10 +1,10 @@
 use Rattle.std.proofs.Common.{◌∙◌, List, IfSome, sym, subst, ap}
 use Rattle.key_spec.specs.declared.KeyPart.{KeyPart}
-use Rattle.file_cursor.specs.CursorPosition.{entry_of}
-use Rattle.file_cursor.specs.declared.places.Order.TheVariants.{Arrival}
+use Rattle.parts_model.specs.CursorPosition.{entry_of}
+use Rattle.parts_model.below.file_cursor.specs.declared.places.Order.TheVariants.{Arrival}
 use Rattle.file_model.specs.Positions.{arrival_reading}
-use Rattle.open_position.specs.OpenStand.{IsEntryIn}
-use Rattle.open_position.specs.Reads.{IsAskedOf}
+use Rattle.parts_model.specs.OpenStand.{IsEntryIn}
+use Rattle.parts_model.specs.OpenPositionReads.{IsAskedOf}
 use Rattle.parts_model.proofs.HitLemmas.{found-elsewhere, looked-in, match-is, match-some}
 use Rattle.library_parts.proofs.reading.hit_in.Goals as goal
 

@@ -3,7 +3,7 @@ use Rattle.std.specs.Option.{option_copied}
 use Rattle.std.proofs.lemmas.List.{drop_all, drop_more, map-append}
 use Rattle.key_pages.specs.EntryList.{EntryList}
 use Rattle.lawful_states.proofs.BaseLemmas.{some-of}
-use Rattle.path_set.specs.KeptPaths.{pages_at}
+use Rattle.parts_model.specs.KeptPaths.{pages_at}
 use Rattle.parts_model.proofs.RowsOver.{gathered-end, gathered-first, gathered-next, gathered-there, path-some}
 use Rattle.library_parts.proofs.rows.paths_of.Goals as goal
 

@@ -1,6 +1,6 @@
 use Rattle.std.proofs.Common.{Bor, Some, map}
 use Rattle.key_pages.specs.EntryList.{EntryList}
-use Rattle.path_set.specs.KeptPaths.{pages_at}
+use Rattle.parts_model.specs.KeptPaths.{pages_at}
 use Rattle.parts_model.proofs.RowsOver.{IsGathered}
 use Rattle.library_parts.proofs.rows.paths_of.Given as goal
 

@@ -1,12 +1,12 @@
 use Rattle.std.proofs.Common.{◌≡◌, ◌∙◌, ◌++◌, ◌∷◌, [], ℕ, List, Option, Result, refl, sym, ap, subst}
 use Rattle.std.specs.Prelude.{All}
 use Rattle.std.proofs.lemmas.Result.{err_from_is_err_and}
-use Rattle.dds_logical.specs.declared.views.LogicalSpec.{LogicalSpec}
+use Rattle.logical_model.below.dds_logical.specs.declared.views.LogicalSpec.{LogicalSpec}
 use Rattle.file_model.specs.declared.paths.PathSpec.{PathSpec}
-use Rattle.path_set.specs.Repeated.{TellsRepeated}
-use Rattle.path_set.specs.Sharing.{CanBeKept}
-use Rattle.view_records.specs.KeyedViews.{HaveFewPairs}
-use Rattle.view_records.specs.Steps.{own_path}
+use Rattle.parts_model.specs.Repeated.{TellsRepeated}
+use Rattle.parts_model.specs.Sharing.{CanBeKept}
+use Rattle.parts_model.specs.KeyedViews.{HaveFewPairs}
+use Rattle.parts_model.specs.Steps.{own_path}
 use Rattle.file_model.specs.Paths.{repeated_in}
 use Rattle.logical_model.specs.Bases.{LogicalFile}
 use Rattle.logical_model.specs.FilePaths.{logical_paths}

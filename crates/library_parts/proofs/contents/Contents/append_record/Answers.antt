@@ -4,8 +4,8 @@ use Rattle.key_order.specs.KeyFields.{AreBytes}
 use Rattle.member_slots.specs.declared.slot.Slot.TheVariants.{Deleted}
 use Rattle.member_slots.specs.Member.{slot_at}
 use Rattle.member_slots.specs.Members.{NumberedMembers, member_of}
-use Rattle.path_set.specs.RecordChanges.{moves_in}
-use Rattle.path_set.specs.MemberSteps.{record_added, slot_replaced}
+use Rattle.parts_model.specs.RecordChanges.{moves_in}
+use Rattle.parts_model.specs.MemberSteps.{record_added, slot_replaced}
 use Rattle.job_table.specs.Table.{changes_held}
 use Rattle.parts_model.proofs.IndexMoves.{IsIndexed-append, append-back, append-can, append-moves, room-left}
 use Rattle.parts_model.proofs.IndexPaths.{room-fewer}

@@ -5,7 +5,7 @@ use Rattle.job_table.specs.Table.{changes_held}
 use Rattle.library_steps.specs.Ranges.{library_bytes}
 use Rattle.lawful_states.specs.Slots.{weight}
 use Rattle.lawful_states.proofs.MemberLemmas.{HasRecords-cleared, weight-cleared}
-use Rattle.path_set.proofs.RebuildLemmas.{rebuilt-ties}
+use Rattle.parts_model.proofs.RebuildLemmas.{rebuilt-ties}
 use Rattle.parts_model.proofs.IndexMoves.{changes-held}
 use Rattle.parts_model.proofs.IndexRebuilt.{IsIndexed-rebuilt, bytes-cleared}
 use Rattle.lawful_states.proofs.LawfulLemmas.{AreOne-slots}

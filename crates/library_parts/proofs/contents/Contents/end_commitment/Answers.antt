@@ -4,7 +4,7 @@ use Rattle.entry_codec.specs.declared.entries.Draft.{Draft}
 use Rattle.entry_codec.specs.declared.kinds.EntryKind.TheVariants.{CommitmentEnded}
 use Rattle.lock_table.specs.Lock.{is_of_group}
 use Rattle.lock_table.specs.Table.{freed}
-use Rattle.memory_journal.specs.Journal.{deposited}
+use Rattle.parts_model.specs.Journal.{deposited}
 use Rattle.lawful_states.specs.Jobs.{HasBegun}
 use Rattle.library_steps.specs.State.{job_at, job_changed, or_new}
 use Rattle.library_steps.specs.Commitment.{with_level}

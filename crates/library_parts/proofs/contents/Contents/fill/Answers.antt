@@ -4,7 +4,7 @@ use Rattle.job_table.specs.Table.{changes_held}
 use Rattle.library_steps.specs.Ranges.{library_bytes}
 use Rattle.lawful_states.specs.Slots.{weight}
 use Rattle.lawful_states.proofs.MemberLemmas.{member_of-with, is_some-IsSome}
-use Rattle.path_set.proofs.RebuildLemmas.{rebuilt-ties}
+use Rattle.parts_model.proofs.RebuildLemmas.{rebuilt-ties}
 use Rattle.parts_model.specs.Filled.{MayFill}
 use Rattle.parts_model.proofs.IndexMoves.{changes-held}
 use Rattle.parts_model.proofs.IndexRebuilt.{IsIndexed-rebuilt}

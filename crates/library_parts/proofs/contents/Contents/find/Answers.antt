@@ -1,11 +1,11 @@
 use Rattle.std.proofs.Common.{List, Some, None, sym, subst, Option, IfSome, refl, arith}
 use Rattle.key_spec.specs.declared.KeyPart.{KeyPart}
 use Rattle.lawful_states.specs.Lawful.{OpensFile}
-use Rattle.open_position.specs.OpenStand.{IsEntryIn}
-use Rattle.file_cursor.specs.CursorPosition.{entry_of}
-use Rattle.file_cursor.specs.declared.places.Hit.{Hit}
+use Rattle.parts_model.specs.OpenStand.{IsEntryIn}
+use Rattle.parts_model.specs.CursorPosition.{entry_of}
+use Rattle.parts_model.below.file_cursor.specs.declared.places.Hit.{Hit}
 use Rattle.file_model.specs.KeyOrder.{merged_parts}
-use Rattle.open_position.specs.Reads.{asked_of, IsAskedOf}
+use Rattle.parts_model.specs.OpenPositionReads.{asked_of, IsAskedOf}
 use Rattle.library_steps.specs.Records.{reading_of}
 use Rattle.library_steps.specs.State.{memory_of}
 use Rattle.parts_model.specs.Parts.{state_of}

@@ -6,7 +6,7 @@ use Rattle.std.proofs.lemmas.List.Elements.{All-filter}
 use Rattle.journal_model.specs.Rollback.{MemberChange}
 use Rattle.lock_table.specs.Lock.{is_by}
 use Rattle.lock_table.specs.Table.{Locks, freed}
-use Rattle.memory_journal.specs.Journal.{deposited}
+use Rattle.parts_model.specs.Journal.{deposited}
 use Rattle.lawful_states.specs.Jobs.{HasBegun}
 use Rattle.library_steps.specs.State.{memory_of, job_of, job_at, job_changed, or_new}
 use Rattle.library_steps.specs.Locking.{is_committed}

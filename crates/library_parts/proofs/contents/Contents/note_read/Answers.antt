@@ -1,10 +1,10 @@
 use Rattle.std.proofs.Common.{ℕ, ◌≡◌, ◌∙◌, List, Some, IfSome, is_some, refl, sym, subst, ap}
 use Rattle.std.specs.Option.{option_map}
 use Rattle.key_spec.specs.declared.KeyPart.{KeyPart}
-use Rattle.file_cursor.specs.CursorPosition.{entry_of}
+use Rattle.parts_model.specs.CursorPosition.{entry_of}
 use Rattle.file_model.specs.KeyOrder.{merged_parts}
-use Rattle.open_position.specs.OpenStand.{IsEntryIn}
-use Rattle.open_position.specs.Reads.{IsAskedOf, asked_of, entry_hit}
+use Rattle.parts_model.specs.OpenStand.{IsEntryIn}
+use Rattle.parts_model.specs.OpenPositionReads.{IsAskedOf, asked_of, entry_hit}
 use Rattle.job_table.specs.Opens.{AllOfNumber, KeptOpen, OpenOrder}
 use Rattle.job_table.specs.Table.{orders_at}
 use Rattle.library_steps.specs.LogicalFiles.{bases_in}

@@ -1,5 +1,5 @@
 use Rattle.std.proofs.Common.{ℕ, ◌≡◌, ◌∙◌, is_some, refl, sym, subst, ap}
-use Rattle.dds_logical.specs.declared.views.LogicalSpec.TheVariants.{Join}
+use Rattle.logical_model.below.dds_logical.specs.declared.views.LogicalSpec.TheVariants.{Join}
 use Rattle.job_table.specs.Opens.{AllOfNumber}
 use Rattle.job_table.specs.Table.{orders_at}
 use Rattle.lawful_states.proofs.LawfulLemmas.{AreOne-open_at}
@@ -8,7 +8,7 @@ use Rattle.library_steps.specs.Reads.{has_read, row_found}
 use Rattle.library_steps.specs.Refusals.{OpenedFile}
 use Rattle.library_steps.specs.State.{memory_of}
 use Rattle.logical_model.specs.Bases.{LogicalFile}
-use Rattle.path_set.specs.KeptPaths.{pages_at}
+use Rattle.parts_model.specs.KeptPaths.{pages_at}
 use Rattle.parts_model.specs.Parts.{state_of}
 use Rattle.parts_model.proofs.DueLemmas.{HasDue-kept}
 use Rattle.parts_model.proofs.IndexOpens.{IsIndexed-row_read}

@@ -2,8 +2,8 @@ use Rattle.std.proofs.Common.{◌+◌, ℕ, arith, ◌≡◌, ◌∙◌, IfOk, s
 use Rattle.member_slots.specs.Member.{MemberState, reorganized}
 use Rattle.member_slots.specs.Members.{member_of, with_member}
 use Rattle.job_table.specs.Table.{changes_held}
-use Rattle.path_set.specs.MemberSteps.{paths_over}
-use Rattle.path_set.specs.RebuiltPaths.{AreRebuilt, CanBeRebuilt}
+use Rattle.parts_model.specs.MemberSteps.{paths_over}
+use Rattle.parts_model.specs.RebuiltPaths.{AreRebuilt, CanBeRebuilt}
 use Rattle.parts_model.specs.Parts.{state_of}
 use Rattle.parts_model.proofs.RemadeLemmas.{found-member, reorganized-can}
 use Rattle.library_parts.proofs.contents.Contents.paths_reorganized.Goals as goal

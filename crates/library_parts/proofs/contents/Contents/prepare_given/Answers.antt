@@ -2,13 +2,13 @@ use Rattle.std.proofs.Common.{◌≡◌, ◌∙◌, ◌+◌, ◌*◌, ◌≤◌,
 use Rattle.std.specs.Prelude.{All}
 use Rattle.member_slots.specs.Member.{MemberState}
 use Rattle.member_slots.specs.Members.{member_of}
-use Rattle.path_set.specs.declared.moves.ImageChange.{ImageChange}
-use Rattle.path_set.specs.declared.moves.PathMove.{PathMove}
-use Rattle.path_set.specs.KeptPaths.{NumberedPaths}
-use Rattle.path_set.specs.ManyChanges.{TakeImages, change_in, moves_of_all}
-use Rattle.path_set.specs.RecordChanges.{HaveRoom, RecordChange}
+use Rattle.parts_model.below.path_set.specs.declared.moves.ImageChange.{ImageChange}
+use Rattle.parts_model.below.path_set.specs.declared.moves.PathMove.{PathMove}
+use Rattle.parts_model.specs.KeptPaths.{NumberedPaths}
+use Rattle.parts_model.specs.ManyChanges.{TakeImages, change_in, moves_of_all}
+use Rattle.parts_model.specs.RecordChanges.{HaveRoom, RecordChange}
 use Rattle.range_images.specs.Given.{AreInPlace}
-use Rattle.given_changes.specs.GivenChanges.{changes_given}
+use Rattle.parts_model.specs.GivenChanges.{changes_given}
 use Rattle.job_table.specs.Table.{changes_held}
 use Rattle.parts_model.specs.Parts.{state_of}
 use Rattle.parts_model.proofs.GivenTakes.{given-asked, given-long, moves-and-room}

@@ -3,9 +3,9 @@ use Rattle.std.specs.Prelude.{unwrap_or}
 use Rattle.member_slots.specs.declared.slot.Slot.TheVariants.{Deleted}
 use Rattle.member_slots.specs.Member.{slot_at}
 use Rattle.member_slots.specs.Members.{member_of}
-use Rattle.path_set.specs.declared.moves.PathMove.{PathMove}
-use Rattle.path_set.specs.MemberSteps.{slot_replaced}
-use Rattle.path_set.specs.RecordChanges.{TakeImage, HaveRoom, moves_in}
+use Rattle.parts_model.below.path_set.specs.declared.moves.PathMove.{PathMove}
+use Rattle.parts_model.specs.MemberSteps.{slot_replaced}
+use Rattle.parts_model.specs.RecordChanges.{TakeImage, HaveRoom, moves_in}
 use Rattle.job_table.specs.Table.{changes_held}
 use Rattle.parts_model.specs.Parts.{state_of}
 use Rattle.parts_model.proofs.IndexLaws.{laws}

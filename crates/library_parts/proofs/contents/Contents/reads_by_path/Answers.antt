@@ -1,6 +1,6 @@
 use Rattle.std.proofs.Common.{List, map, refl, subst, sym}
 use Rattle.file_model.specs.declared.paths.PathFormat.{PathFormat}
-use Rattle.open_position.specs.OpenStand.{AreFormatKeys}
+use Rattle.parts_model.specs.OpenStand.{AreFormatKeys}
 use Rattle.parts_model.proofs.OpenLemmas.{new-by-path, number-told}
 use Rattle.library_parts.proofs.contents.Contents.reads_by_path.Goals as goal
 

@@ -12,7 +12,7 @@ use Rattle.library_steps.specs.Records.{is_file_path}
 use Rattle.library_steps.specs.State.{FileState}
 use Rattle.logical_model.specs.Bases.{FileSpec, PhysicalFile, LogicalFile}
 use Rattle.logical_model.specs.Formats.{has_key}
-use Rattle.view_records.specs.Steps.{own_path}
+use Rattle.parts_model.specs.Steps.{own_path}
 use Rattle.parts_model.specs.Indexed.{IsView, ReadsRowsBy, path_by}
 use Rattle.parts_model.specs.Parts.{LibraryParts, joined}
 use Rattle.parts_model.specs.Reads.{ReadsFor, ReadsNew}

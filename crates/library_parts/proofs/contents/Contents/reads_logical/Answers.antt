@@ -1,7 +1,7 @@
 use Rattle.std.proofs.Common.{Some, map, sym, subst}
 use Rattle.file_model.specs.declared.paths.PathSpec.{PathSpec}
 use Rattle.library_steps.specs.LogicalFiles.{bases_in}
-use Rattle.open_position.specs.OpenStand.{AreFormatKeys}
+use Rattle.parts_model.specs.OpenStand.{AreFormatKeys}
 use Rattle.parts_model.specs.Reads.{ReadsNew}
 use Rattle.parts_model.proofs.FormatKeys.{view-keys}
 use Rattle.parts_model.proofs.OpenLemmas.{new-with-rows}

@@ -2,7 +2,7 @@ use Rattle.std.proofs.Common.{List, map, sym, subst}
 use Rattle.file_model.specs.declared.paths.PathSpec.{PathSpec}
 use Rattle.file_model.specs.FilePaths.{physical_path}
 use Rattle.key_spec.specs.declared.KeySpec.{KeySpec}
-use Rattle.open_position.specs.OpenStand.{AreFormatKeys}
+use Rattle.parts_model.specs.OpenStand.{AreFormatKeys}
 use Rattle.parts_model.proofs.FormatKeys.{physical-keys}
 use Rattle.library_parts.proofs.contents.Contents.reads_physical.Goals as goal
 

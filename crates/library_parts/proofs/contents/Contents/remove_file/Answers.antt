@@ -4,7 +4,7 @@ use Rattle.library_model.specs.Named.{Named}
 use Rattle.library_steps.specs.DeleteFile.{without_members}
 use Rattle.library_steps.specs.Ranges.{library_bytes}
 use Rattle.library_steps.specs.State.{MemberStatus}
-use Rattle.path_set.specs.KeptPaths.{NumberedPaths, spare_of}
+use Rattle.parts_model.specs.KeptPaths.{NumberedPaths, spare_of}
 use Rattle.parts_model.specs.Parts.{state_of}
 use Rattle.parts_model.specs.PathChanges.{detached_each, without_paths}
 use Rattle.parts_model.proofs.IndexDetached.{some-each}

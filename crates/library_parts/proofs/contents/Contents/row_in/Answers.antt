@@ -12,7 +12,7 @@ use Rattle.job_table.specs.RowReads.{IsAskedOf}
 use Rattle.lawful_states.proofs.NameLemmas.{some-equal}
 use Rattle.library_steps.specs.LogicalFiles.{bases_in}
 use Rattle.library_steps.specs.State.{memory_of}
-use Rattle.path_set.specs.KeptPaths.{pages_at}
+use Rattle.parts_model.specs.KeptPaths.{pages_at}
 use Rattle.parts_model.specs.Parts.{state_of}
 use Rattle.logical_model.specs.FilePaths.{join_of}
 use Rattle.parts_model.specs.Rows.{FindsRow, row_found_by}

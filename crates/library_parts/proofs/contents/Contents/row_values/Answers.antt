@@ -1,5 +1,5 @@
 use Rattle.std.proofs.Common.{◌≡◌, ◌∙◌, Bor, List, ℕ, map, ap, sym, subst}
-use Rattle.join_records.specs.Shown.{IsShownBy}
+use Rattle.parts_model.specs.Shown.{IsShownBy}
 use Rattle.library_steps.specs.LogicalFiles.{bases_in}
 use Rattle.library_steps.specs.State.{memory_of}
 use Rattle.logical_model.specs.FilePaths.{join_of}

@@ -1,7 +1,7 @@
 use Rattle.std.proofs.Common.{◌≡◌, ◌≤◌, ◌∙◌, List, length, map, ap, sym, subst}
-use Rattle.dds_logical.specs.declared.join_views.JoinedFile.{JoinedFile}
-use Rattle.dds_logical.specs.declared.views.LogicalSpec.{LogicalSpec}
-use Rattle.dds_logical.specs.declared.views.LogicalSpec.TheVariants.{Join}
+use Rattle.logical_model.below.dds_logical.specs.declared.join_views.JoinedFile.{JoinedFile}
+use Rattle.logical_model.below.dds_logical.specs.declared.views.LogicalSpec.{LogicalSpec}
+use Rattle.logical_model.below.dds_logical.specs.declared.views.LogicalSpec.TheVariants.{Join}
 use Rattle.file_model.specs.declared.joins.Secondary.{Secondary}
 use Rattle.file_model.specs.declared.paths.PathSpec.{PathSpec}
 use Rattle.job_table.specs.RowStand.{JoinStand}

@@ -1,5 +1,5 @@
 use Rattle.std.proofs.Common.{Some, subst, sym}
-use Rattle.dds_logical.specs.declared.views.LogicalSpec.{LogicalSpec}
+use Rattle.logical_model.below.dds_logical.specs.declared.views.LogicalSpec.{LogicalSpec}
 use Rattle.job_table.specs.Opens.{join_by}
 use Rattle.library_steps.specs.LogicalFiles.{bases_in}
 use Rattle.logical_model.specs.Bases.{LogicalFile}

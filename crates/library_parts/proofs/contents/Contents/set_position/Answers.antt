@@ -1,6 +1,6 @@
 use Rattle.std.proofs.Common.{ℕ, ◌≡◌, ◌∙◌, Ok, refl, sym, subst}
 use Rattle.logical_model.specs.Readings.{join_in}
-use Rattle.open_position.specs.Reads.{side_of}
+use Rattle.parts_model.specs.OpenPositionReads.{side_of}
 use Rattle.job_table.specs.OpenChanges.{CanStand, IsStood}
 use Rattle.job_table.specs.Opens.{AllOfNumber, OpenOrder}
 use Rattle.job_table.specs.Table.{orders_at}

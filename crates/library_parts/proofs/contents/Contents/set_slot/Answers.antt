@@ -5,8 +5,8 @@ use Rattle.member_slots.specs.declared.slot.Slot.{Slot}
 use Rattle.member_slots.specs.declared.slot.Slot.TheVariants.{Deleted}
 use Rattle.member_slots.specs.Member.{slot_at}
 use Rattle.member_slots.specs.Members.{NumberedMembers, member_of}
-use Rattle.path_set.specs.RecordChanges.{moves_in}
-use Rattle.path_set.specs.MemberSteps.{slot_replaced}
+use Rattle.parts_model.specs.RecordChanges.{moves_in}
+use Rattle.parts_model.specs.MemberSteps.{slot_replaced}
 use Rattle.library_steps.specs.State.{FileState, fields_of}
 use Rattle.job_table.specs.Table.{changes_held}
 use Rattle.parts_model.proofs.IndexMoves.{IsIndexed-set, replace-back, replace-can, room-left, slot-stands}
