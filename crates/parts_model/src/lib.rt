@@ -2,12 +2,12 @@
 //! `specs/`; nothing runs. `library_parts` has the code. Begin with `specs/Parts.antt`, then `specs/Answers.antt` and `specs/Indexed.antt`.
 #![tactic(auto)]
 
-mod boundaries;
-mod finds;
-mod keys;
-mod reading;
-mod rows;
-mod stop;
+pub mod boundaries;
+pub mod finds;
+pub mod keys;
+pub mod reading;
+pub mod rows;
+pub mod stop;
 
 pub use boundaries::Origin;
 pub use file_cursor;
