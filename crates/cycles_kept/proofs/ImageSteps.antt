@@ -5,7 +5,7 @@ use Rattle.std.specs.Option.{is_none, option_and_then}
 use Rattle.std.proofs.lemmas.Bool.Decides.{nat_tests}
 use Rattle.journal_model.specs.Rollback.{MemberChange}
 use Rattle.lock_table.specs.declared.levels.Call.{Call}
-use Rattle.dds_logical.specs.declared.join_views.JoinView.{JoinView}
+use Rattle.logical_model.below.dds_logical.specs.declared.join_views.JoinView.{JoinView}
 use Rattle.file_model.specs.Joins.{RowPlace}
 use Rattle.file_model.specs.Paths.{PathEntry}
 use Rattle.file_model.specs.Positions.{Position}

@@ -11,7 +11,7 @@ use Rattle.entry_codec.specs.Spelling.{IsImage}
 use Rattle.member_slots.specs.Members.{NumberedMembers, member_at}
 use Rattle.record_fmt.specs.declared.formats.Field.{Field}
 use Rattle.record_fmt.specs.Layout.{record_length}
-use Rattle.logical_model.specs.Bases.{FileSpec, PhysicalFile, LogicalFile}
+use Rattle.library_steps.specs.Bases.{FileSpec, PhysicalFile, LogicalFile}
 use Rattle.journal_model.specs.Images.{images_of}
 use Rattle.journal_model.specs.Replay.{before_of, is_in}
 use Rattle.journal_model.specs.Rollback.{MemberChange, change_drafts, undo_drafts, undo_kinds, numbered_from}

@@ -23,8 +23,8 @@ use Rattle.library_steps.specs.LogicalFiles.{bases_of}
 use Rattle.library_steps.specs.Refusals.{named_or_refused, refuse_if, refuse_with, sequences_left}
 use Rattle.library_steps.specs.State.{Memory, file_named}
 use Rattle.library_steps.specs.Uses.{changer_of_any, unused}
-use Rattle.logical_model.specs.Bases.{base_members}
-use Rattle.logical_model.specs.FilePaths.{logical_paths}
+use Rattle.library_steps.specs.Bases.{base_members}
+use Rattle.library_steps.specs.FilePaths.{logical_paths}
 use Rattle.journal_kept.proofs.FindLemmas.{found-is}
 use Rattle.library_kept.proofs.ResultLemmas.{ok-equal, bind-ok}
 use Rattle.deposited_entries.specs.Deposits.{AreShort, IsShort}

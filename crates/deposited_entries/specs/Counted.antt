@@ -3,7 +3,7 @@
 use Rattle.std.specs.Prelude.{◌≤◌, IfSome}
 use Rattle.std.specs.List.{AllByRecursion}
 use Rattle.record_fmt.specs.Layout.{record_length}
-use Rattle.logical_model.specs.Bases.{FileSpec, PhysicalFile, LogicalFile}
+use Rattle.library_steps.specs.Bases.{FileSpec, PhysicalFile, LogicalFile}
 use Rattle.library_steps.specs.State.{State}
 
 -- a physical file's records have a field

@@ -20,7 +20,7 @@ use Rattle.lawful_states.proofs.NameLemmas.{same_name-equal}
 use Rattle.library_model.specs.Named.{Named, named, same_name}
 use Rattle.library_steps.specs.CreatePhysicalFile.{described_by}
 use Rattle.library_steps.specs.State.{FileState, physical_in}
-use Rattle.restart_model.specs.Sources.{described_files, format_named, if_physical, spec_beside, with_described}
+use Rattle.named_bases.specs.Sources.{described_files, format_named, if_physical, spec_beside, with_described}
 use Rattle.restart_laws.proofs.ReferenceLemmas.{physical-stays}
 use Rattle.described_journals.specs.Files.{described_upon, with_file}
 use Rattle.described_journals.specs.Needed.{if_records, is_wanted, needed, source_if, with_source}

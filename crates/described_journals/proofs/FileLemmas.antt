@@ -6,7 +6,7 @@ use Rattle.logical_model.specs.Bases.{FileSpec}
 use Rattle.journal_model.specs.Catalogue.{CatalogFile}
 use Rattle.library_model.specs.Named.{Named, named, same_name}
 use Rattle.library_steps.specs.State.{FileState}
-use Rattle.restart_model.specs.Sources.{described_behind, described_files, with_described}
+use Rattle.named_bases.specs.Sources.{described_behind, described_files, with_described}
 use Rattle.described_journals.specs.Files.{described_upon, with_file}
 
 pub upon-append : (before : Named FileState) (xs ys : List CatalogFile) → described_upon before (xs ++ ys) ≡ described_upon (described_upon before ys) xs

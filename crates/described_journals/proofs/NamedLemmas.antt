@@ -12,7 +12,7 @@ use Rattle.dds_physical.specs.Keywords.{arguments_of, first_named}
 use Rattle.dds_physical.specs.References.{any_refers_to, file_of_keyword, is_named, keyword_refers_to, line_refers_to, place_is, reference_file, refers_to}
 use Rattle.dds_logical.specs.FormatLines.{FormatLines, formats_in, is_join_file}
 use Rattle.dds_logical.specs.Logical.{base_name}
-use Rattle.restart_model.specs.Sources.{base_files, file_in_keyword, file_of_line, second_name}
+use Rattle.named_bases.specs.Sources.{base_files, file_in_keyword, file_of_line, second_name}
 use Rattle.restart_laws.proofs.ReferenceLemmas.{NamesOnly}
 use Rattle.described_journals.specs.Named.{first_joined, named_argument, named_base}
 

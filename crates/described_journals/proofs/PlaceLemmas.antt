@@ -12,7 +12,7 @@ use Rattle.journal_model.specs.Catalogue.{CatalogFile}
 use Rattle.journal_replay.specs.Tests.{is_physical}
 use Rattle.library_model.specs.Named.{Named}
 use Rattle.library_steps.specs.State.{FileState}
-use Rattle.restart_model.specs.Sources.{described_behind}
+use Rattle.named_bases.specs.Sources.{described_behind}
 use Rattle.described_journals.specs.Files.{described_upon}
 use Rattle.described_journals.specs.Needed.{found, found_before, if_records, is_wanted, needed, with_source}
 use Rattle.described_journals.proofs.FileLemmas.{upon-append}

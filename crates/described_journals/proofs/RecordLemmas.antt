@@ -9,7 +9,7 @@ use Rattle.field_values.specs.FirstBad.{TellsFirstBad}
 use Rattle.record_fmt.specs.declared.formats.Field.{Field}
 use Rattle.record_fmt.specs.Layout.{record_length}
 use Rattle.record_fmt.specs.Records.{record_held}
-use Rattle.restart_model.specs.Sources.{is_record_of}
+use Rattle.named_bases.specs.Sources.{is_record_of}
 
 -- no byte is bad exactly where the bytes pass
 pub told-first : (test : List ℕ → Bool) (bytes : List ℕ) (place : Option ℕ) → TellsFirstBad test bytes place → is_none place ≡ test bytes

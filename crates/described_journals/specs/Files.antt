@@ -6,7 +6,7 @@ use Rattle.library_model.specs.Named.{Named}
 use Rattle.library_steps.specs.State.{FileState}
 use Rattle.file_catalogue.specs.declared.bodies.FileBody.{FileBody}
 use Rattle.file_catalogue.specs.Bodies.{made_of}
-use Rattle.restart_model.specs.Sources.{spec_beside, with_described}
+use Rattle.named_bases.specs.Sources.{spec_beside, with_described}
 
 -- what a source describes, as a file without members
 abbrev pub described_as : (source : List ℕ) → Option FileSpec → Option FileState

@@ -4,7 +4,7 @@ ghost use Rattle.std.specs.Option.{option_and_then, option_map};
 ghost use Rattle.library_model.specs.Named.{named};
 ghost use Rattle.library_steps.specs.State.{physical_in};
 ghost use Rattle.replay_files.specs.Files.{catalog_file};
-ghost use Rattle.restart_model.specs.Sources.{format_named, spec_named};
+ghost use Rattle.named_bases.specs.Sources.{format_named, spec_named};
 ghost use Rattle.described_journals.specs.Files.{state_of, with_file};
 
 use crate::reading::body_beside;

@@ -1,6 +1,6 @@
 //! The rules by which a journal is replayed: those of data descriptions.
 ghost use Rattle.std.specs.Prelude.{◌≡◌};
-ghost use Rattle.restart_model.specs.Sources.{descriptions, is_record_of};
+ghost use Rattle.named_bases.specs.Sources.{descriptions, is_record_of};
 
 use crate::naming::names;
 use crate::needed::physical_beside;

@@ -10,7 +10,7 @@ ghost use Rattle.dds_logical.specs.FormatLines.{based_on, formats_in, is_join_fi
 ghost use Rattle.dds_logical.specs.Logical.{base_name};
 ghost use Rattle.dds_logical.specs.Origins.{keyword_names};
 ghost use Rattle.dds_physical.specs.References.{file_of};
-ghost use Rattle.restart_model.specs.Sources.{base_files, names_by, names_if};
+ghost use Rattle.named_bases.specs.Sources.{base_files, names_by, names_if};
 ghost use Rattle.entry_codec.specs.declared.kinds.FileKind.TheVariants.{Logical};
 ghost use Rattle.described_journals.specs.Named.{first_joined, named_argument, named_base};
 

@@ -8,7 +8,7 @@ ghost use Rattle.dds_physical.specs.Physical.{physical_of};
 ghost use Rattle.logical_model.specs.Bases.{PhysicalFile};
 ghost use Rattle.entry_codec.specs.declared.kinds.FileKind.TheVariants.{Physical};
 ghost use Rattle.journal_replay.specs.Tests.{is_physical};
-ghost use Rattle.restart_model.specs.Sources.{described_files, format_named, if_physical, spec_beside};
+ghost use Rattle.named_bases.specs.Sources.{described_files, format_named, if_physical, spec_beside};
 ghost use Rattle.described_journals.specs.Files.{described_upon};
 ghost use Rattle.described_journals.specs.Needed.{found, found_before, is_wanted, needed, with_source};
 

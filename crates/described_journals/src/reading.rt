@@ -2,7 +2,7 @@
 ghost use Rattle.std.specs.Prelude.{◌≡◌, IfOk};
 ghost use Rattle.std.specs.Option.{option_map};
 ghost use Rattle.entry_codec.specs.declared.kinds.FileKind.TheVariants.{Physical, Logical};
-ghost use Rattle.restart_model.specs.Sources.{spec_beside};
+ghost use Rattle.named_bases.specs.Sources.{spec_beside};
 ghost use Rattle.described_journals.specs.Files.{described_as, state_of};
 
 use crate::described::DescribedFiles;

@@ -1,6 +1,6 @@
 //! All files of a journal, each described beside those before it.
 ghost use Rattle.std.specs.Prelude.{◌≡◌, [], ◌∷◌, IfOk, OnOk};
-ghost use Rattle.restart_model.specs.Sources.{described_files};
+ghost use Rattle.named_bases.specs.Sources.{described_files};
 ghost use Rattle.described_journals.specs.Files.{described_upon};
 ghost use Rattle.described_journals.specs.Needed.{found};
 

@@ -21,14 +21,14 @@ use Rattle.joint_state.specs.Sound.{IsSound}
 use Rattle.front_laws.specs.Replayed.{IsReplayed}
 use Rattle.front_laws.specs.Unsaved.{AsksNoCheckpoint, saves}
 use Rattle.front_laws.specs.Opens.{FrontsCanBeOpened}
-use Rattle.journal_fronts.specs.Fronts.{entries_at, IsAnswered, IsFront}
+use Rattle.front_laws.specs.Fronts.{entries_at, IsAnswered, IsFront}
 use Rattle.input_scripts.specs.Askable.{is_askable_script}
 use Rattle.input_scripts.specs.declared.Scripts.{Scripts}
 use Rattle.job_runner.specs.Asked.{AreAsked}
 use Rattle.job_runner.proofs.CallLemmas.{AreAsked-built}
 use Rattle.restart_model.specs.Libraries.{restart_job}
 use Rattle.restart_model.specs.Sources.{descriptions}
-use Rattle.restarted_journal.specs.Restarts.{MayRestart}
+use Rattle.opened_library.specs.Restarts.{MayRestart}
 use Rattle.ibmi_batch.specs.Storing.{IsAnsweredAt, IsKeptRun, IsOpenFront, MayRun}
 
 -- ---- no call asks for a checkpoint

@@ -9,7 +9,7 @@ use Rattle.checkpoint.specs.declared.layout.TheConstants.{ROOT_AREA, VERSION}
 use Rattle.library_model.specs.declared.calls.Call.{Call}
 use Rattle.input_scripts.specs.declared.Scripts.{Scripts}
 use Rattle.input_reader.specs.Input.{faults_of}
-use Rattle.restarted_journal.specs.Restarts.{MayRestart}
+use Rattle.opened_library.specs.Restarts.{MayRestart}
 use Rattle.restart_model.specs.Libraries.{restart_job}
 use Rattle.restart_model.specs.Sources.{descriptions}
 use Rattle.ibmi_batch.specs.declared.status.Status.{Status}

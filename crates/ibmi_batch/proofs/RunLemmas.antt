@@ -13,8 +13,8 @@ use Rattle.joint_state.specs.Sound.{IsSound}
 use Rattle.front_laws.specs.Replayed.{IsReplayed}
 use Rattle.front_laws.specs.Unsaved.{AsksNoCheckpoint}
 use Rattle.front_laws.specs.Opens.{FrontsCanBeOpened}
-use Rattle.kept_library.specs.Parts.{LibraryOver}
-use Rattle.kept_library.specs.Stands.{IsAt}
+use Rattle.opened_library.specs.Parts.{LibraryOver}
+use Rattle.opened_library.specs.Stands.{IsAt}
 use Rattle.input_scripts.specs.Askable.{is_askable_script}
 use Rattle.input_scripts.specs.declared.Schedule.{Schedule}
 use Rattle.input_scripts.specs.declared.Schedule.TheVariants.{Jobs, RoundRobin}
@@ -29,7 +29,7 @@ use Rattle.job_runner.proofs.StartLemmas.{HasRun-made, StandsForced-begun}
 use Rattle.opened_library.specs.Opened.{IsNotOpened, IsOpenedLibrary}
 use Rattle.restart_model.specs.Libraries.{restart_job}
 use Rattle.restart_model.specs.Sources.{descriptions}
-use Rattle.restarted_journal.specs.Restarts.{MayRestart}
+use Rattle.opened_library.specs.Restarts.{MayRestart}
 use Rattle.ibmi_batch.specs.declared.status.Status.{Status}
 use Rattle.ibmi_batch.specs.declared.status.Status.TheVariants.{StoreFault}
 use Rattle.ibmi_batch.specs.Opening.{status_of}

@@ -2,7 +2,7 @@
 use Rattle.std.proofs.Common.{◌≡◌, ℕ, ◌+◌, ◌≤◌, List, [], ◌∷◌, length, sym, subst, arith}
 use Rattle.std.specs.List.{AllByRecursion}
 use Rattle.text_lines.specs.Lines.{lines_of}
-use Rattle.journal_fronts.specs.Deposits.{AreShort}
+use Rattle.front_laws.specs.Deposits.{AreShort}
 use Rattle.library_model.specs.declared.sources.NamedSource.{NamedSource}
 use Rattle.input_scripts.specs.declared.Scripts.{Scripts}
 use Rattle.input_scripts.specs.Schedules.{NamesJobs}

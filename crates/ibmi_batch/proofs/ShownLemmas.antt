@@ -3,7 +3,7 @@ use Rattle.std.proofs.Common.{◌≡◌, inl, inr, List, sym, subst}
 use Rattle.store_model.specs.Disk.{Disk}
 use Rattle.entry_codec.specs.declared.entries.Entry.{Entry}
 use Rattle.library_steps.specs.State.{State}
-use Rattle.kept_library.specs.Parts.{LibraryOver}
+use Rattle.opened_library.specs.Parts.{LibraryOver}
 use Rattle.opened_library.specs.Opened.{IsOpenedLibrary, Restarts}
 use Rattle.ibmi_batch.specs.declared.status.Status.{Status}
 use Rattle.ibmi_batch.specs.declared.status.Status.TheVariants.{Done, Words, ReadFault, TooLong, Script, NotALibrary, Damaged, StoreFault, WriteFault, NoMemory, JobsEnded, Exists}

@@ -5,10 +5,10 @@ use Rattle.store_model.specs.Disk.{Areas, Disk, Leaves, May}
 use Rattle.text_lines.specs.Lines.{lines_of}
 use Rattle.entry_codec.specs.declared.entries.Entry.{Entry}
 use Rattle.receiver_chain.specs.Others.{LeavesRoots}
-use Rattle.journal_fronts.specs.Deposits.{AreShort}
+use Rattle.front_laws.specs.Deposits.{AreShort}
 use Rattle.library_steps.specs.State.{State}
 use Rattle.library_steps.specs.History.{Outcome, Standing, Runs}
-use Rattle.journal_fronts.specs.Fronts.{IsAnswered, IsFront}
+use Rattle.front_laws.specs.Fronts.{IsAnswered, IsFront}
 use Rattle.library_model.specs.declared.calls.Call.{Call}
 use Rattle.library_model.specs.declared.limits.TheConstants.{MOST_JOBS}
 use Rattle.input_scripts.specs.declared.Scripts.{Scripts}

@@ -8,12 +8,12 @@ use Rattle.checkpoint.specs.declared.layout.TheConstants.{ROOT_AREA}
 use Rattle.journal_opening.specs.Journals.{IsEmptyLibrary, IsFormattingOf, SpellJournal}
 use Rattle.restart_model.specs.Sources.{descriptions}
 use Rattle.restart_model.specs.Libraries.{restart_job}
-use Rattle.restarted_journal.specs.Restarts.{MayRestart}
+use Rattle.opened_library.specs.Restarts.{MayRestart}
 use Rattle.library_model.specs.declared.calls.Call.{Call}
 use Rattle.library_model.specs.declared.sources.NamedSource.{NamedSource}
 use Rattle.library_steps.specs.State.{State}
 use Rattle.library_steps.specs.History.{Outcome, Standing, Runs}
-use Rattle.journal_fronts.specs.Fronts.{entries_at, IsFront}
+use Rattle.front_laws.specs.Fronts.{entries_at, IsFront}
 use Rattle.opened_library.specs.Opened.{IsOpenedFrom, Restarts}
 
 -- whether the store tells its bytes, and the disk before the command and behind it

@@ -8,7 +8,7 @@ ghost use Rattle.job_runner.specs.Moments.{StandsForced};
 ghost use Rattle.job_runner.specs.Session.{HasMade};
 ghost use Rattle.job_runner.specs.Turns.{AreInTurn};
 ghost use Rattle.library_model.specs.declared.calls.Call.{Call};
-ghost use Rattle.kept_library.specs.Stands.{IsAt};
+ghost use Rattle.opened_library.specs.Stands.{IsAt};
 ghost use Rattle.library_steps.specs.State.{State};
 ghost use Rattle.library_steps.specs.History.{Outcome};
 ghost use Rattle.listing.specs.HistoryListing.{listing};

@@ -10,7 +10,7 @@ use Rattle.library_model.specs.declared.calls.Call.{Call}
 use Rattle.library_model.specs.declared.sources.NamedSource.{NamedSource}
 use Rattle.library_steps.specs.State.{State}
 use Rattle.library_steps.specs.History.{Outcome, Standing, Runs}
-use Rattle.journal_fronts.specs.Fronts.{entries_at}
+use Rattle.library_core.specs.Fronts.{entries_at}
 use Rattle.job_runner.specs.Moments.{EndsWhole, IsLeft, IsAnsweredBy}
 use Rattle.job_runner.proofs.FrontLemmas.{left-more, left-joined, left-front, left-behind}
 use Rattle.run_laws.proofs.OutcomeLemmas.{Runs-append}

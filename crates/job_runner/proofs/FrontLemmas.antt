@@ -11,7 +11,7 @@ use Rattle.library_model.specs.declared.calls.Call.{Call}
 use Rattle.library_model.specs.declared.sources.NamedSource.{NamedSource}
 use Rattle.library_steps.specs.State.{State}
 use Rattle.library_steps.specs.History.{Outcome, Standing, Runs}
-use Rattle.journal_fronts.specs.Fronts.{entries_at, entries_behind, IsAcknowledged, Switches, IsWhole, HasAcknowledged}
+use Rattle.library_core.specs.Fronts.{entries_at, entries_behind, IsAcknowledged, Switches, IsWhole, HasAcknowledged}
 use Rattle.job_runner.specs.Moments.{EndsWhole, IsLeft}
 use Rattle.run_laws.proofs.OutcomeLemmas.{Runs-append, Runs-one, Runs-split_at}
 

@@ -15,10 +15,10 @@ use Rattle.library_model.specs.declared.sources.NamedSource.{NamedSource}
 use Rattle.library_steps.specs.State.{State, memory_of, job_at}
 use Rattle.library_steps.specs.Step.{step}
 use Rattle.library_steps.specs.History.{is_running, Outcome, Standing, Failed, Comes, Runs}
-use Rattle.journal_fronts.specs.Deposits.{switches}
+use Rattle.library_core.specs.Deposits.{switches}
 use Rattle.library_core.specs.Parts.{LibraryOver}
 use Rattle.library_core.specs.Stands.{Stands, IsAt, Goes, whole_from}
-use Rattle.journal_fronts.specs.Fronts.{entries_at, entries_behind, HasSwitched, IsAcknowledged, IsWhole, HasAcknowledged}
+use Rattle.library_core.specs.Fronts.{entries_at, entries_behind, HasSwitched, IsAcknowledged, IsWhole, HasAcknowledged}
 use Rattle.job_runner.specs.Moments.{EndsWhole, IsLeft, IsAnsweredBy, LeavesForced, Leads}
 use Rattle.job_runner.proofs.AnsweredLemmas.{answered-none, answered-one, answered-append}
 use Rattle.job_runner.proofs.FrontLemmas.{acknowledged-none, acknowledged-call, whole-none, whole-all, ends-joined, left-more, left-behind, left-joined}

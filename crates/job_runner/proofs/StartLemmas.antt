@@ -11,7 +11,7 @@ use Rattle.library_model.specs.declared.sources.NamedSource.{NamedSource}
 use Rattle.library_steps.specs.State.{State, begun}
 use Rattle.library_steps.specs.History.{Outcome}
 use Rattle.library_core.specs.Parts.{LibraryOver}
-use Rattle.journal_fronts.specs.Fronts.{entries_at, IsAnswered, IsWhole, IsFront}
+use Rattle.library_core.specs.Fronts.{entries_at, IsAnswered, IsWhole, IsFront}
 use Rattle.job_runner.specs.Moments.{IsAnsweredBy, IsLeft, LeavesForced, Leads, StandsForced, HasRun}
 use Rattle.job_runner.specs.Places.{BeginsJobs}
 use Rattle.job_runner.specs.Session.{SessionOver, HasMade}

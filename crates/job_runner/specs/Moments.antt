@@ -13,7 +13,7 @@ use Rattle.library_steps.specs.State.{State}
 use Rattle.library_steps.specs.History.{Outcome, Standing, Runs}
 use Rattle.library_core.specs.Parts.{LibraryOver}
 use Rattle.library_core.specs.Stands.{Stands, IsAt}
-use Rattle.journal_fronts.specs.Fronts.{entries_at, IsWhole, HasAcknowledged, IsAnswered, IsFront}
+use Rattle.library_core.specs.Fronts.{entries_at, IsWhole, HasAcknowledged, IsAnswered, IsFront}
 
 -- so many entries are those that were forced before these calls, or those behind whole ones of them; they are no fewer than were forced, and have what was
 -- acknowledged

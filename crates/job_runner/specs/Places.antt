@@ -8,7 +8,7 @@ use Rattle.library_core.specs.Parts.{LibraryOver}
 use Rattle.library_steps.specs.State.{State, JobState, job_at, new_job}
 use Rattle.library_steps.specs.History.{is_running}
 use Rattle.library_model.specs.Ending.{is_end_job}
-use Rattle.journal_fronts.specs.Deposits.{AreShort}
+use Rattle.library_core.specs.Deposits.{AreShort}
 use Rattle.joint_state.specs.Sound.{IsSound}
 use Rattle.library_model.specs.declared.limits.TheConstants.{MOST_JOBS}
 use Rattle.input_scripts.specs.declared.Scripts.{Scripts}

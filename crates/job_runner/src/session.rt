@@ -6,7 +6,7 @@ ghost use Rattle.library_model.specs.declared.calls.Call.{Call};
 ghost use Rattle.library_model.specs.declared.replies.Reply.{Reply as ReplyValue};
 ghost use Rattle.library_steps.specs.State.{new_job};
 ghost use Rattle.built_requests.specs.Built.{is_built};
-ghost use Rattle.journal_fronts.specs.Deposits.{AreShort};
+ghost use Rattle.library_core.specs.Deposits.{AreShort};
 ghost use Rattle.joint_state.specs.Sound.{IsSound};
 ghost use Rattle.library_model.specs.Ending.{is_end_job};
 ghost use Rattle.job_runner.specs.declared.session.Stepped.TheVariants.{Called, Ended, Stopped};

@@ -6,3 +6,6 @@ pub mod Users
 pub use Rattle.join_position.specs.Kept
 pub use Rattle.join_position.specs.RowReads
 pub use Rattle.join_position.specs.RowStand
+pub use Rattle.file_cursor.specs.CursorPosition
+pub use Rattle.file_cursor.specs.PositionBytes
+pub use Rattle.file_cursor.specs.Reading

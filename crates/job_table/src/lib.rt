@@ -12,6 +12,7 @@ mod reads;
 mod users;
 
 pub use changes::{Undo, UndoParts, Undos};
+pub use file_cursor;
 pub use jobs::{Jobs, LAST_OPEN};
 pub use join_position;
 pub use open::{Open, OpenAt, first_of};

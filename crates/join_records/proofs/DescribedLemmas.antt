@@ -14,10 +14,10 @@ use Rattle.dds_source.specs.declared.keywords.Keyword.{Keyword}
 use Rattle.dds_source.specs.declared.specifications.Source.{Source}
 use Rattle.dds_source.specs.declared.specifications.Specification.{Specification}
 use Rattle.dds_source.specs.Faults.{first_after}
-use Rattle.dds_physical.specs.declared.physical_files.PhysicalSpec.{PhysicalSpec}
-use Rattle.dds_physical.specs.Keywords.{has_name, first_named, arguments_of}
-use Rattle.dds_physical.specs.Names.{field_named}
-use Rattle.dds_physical.proofs.FaultLemmas.{nothing_noted}
+use Rattle.logical_paths.below.dds_physical.specs.declared.physical_files.PhysicalSpec.{PhysicalSpec}
+use Rattle.logical_paths.specs.Keywords.{has_name, first_named, arguments_of}
+use Rattle.logical_paths.specs.Names.{field_named}
+use Rattle.logical_paths.proofs.FaultLemmas.{nothing_noted}
 use Rattle.dds_logical.specs.declared.join_views.JoinedFile.{JoinedFile}
 use Rattle.dds_logical.specs.declared.join_views.JoinView.{JoinView}
 use Rattle.dds_logical.specs.declared.views.View.{View}

@@ -8,7 +8,7 @@ use Rattle.record_fmt.specs.Layout.{IsLaidOut, lies_from}
 use Rattle.key_spec.specs.declared.KeyPart.{KeyPart}
 use Rattle.key_spec.specs.declared.KeyPart.TheVariants.{Field as KeyField, Absent}
 use Rattle.key_spec.specs.declared.Ties.TheVariants.{Rising}
-use Rattle.key_order.specs.KeyFields.{AreBytes, HasPosition, key_width}
+use Rattle.access_path.specs.KeyFields.{AreBytes, HasPosition, key_width}
 use Rattle.key_pages.specs.EntryList.{EntryList}
 use Rattle.member_slots.specs.declared.slot.Slot.{Slot}
 use Rattle.member_slots.specs.declared.slot.Slot.TheVariants.{Live, Deleted}
@@ -23,8 +23,8 @@ use Rattle.file_model.specs.declared.views.ViewField.{ViewField}
 use Rattle.file_model.specs.FilePaths.{every_record, key_parts, path_format}
 use Rattle.file_model.specs.Views.{default_image, field_value}
 use Rattle.access_path.specs.PathBytes.{IsInBytes}
-use Rattle.file_cursor.specs.PositionBytes.{HasKeysWithin}
-use Rattle.view_rules.specs.Shown.{HasValue}
+use Rattle.join_rows.specs.PositionBytes.{HasKeysWithin}
+use Rattle.logical_paths.specs.Shown.{HasValue}
 use Rattle.dds_logical.specs.declared.join_views.JoinedFile.{JoinedFile}
 use Rattle.dds_logical.specs.declared.join_views.JoinView.{JoinView}
 use Rattle.dds_logical.specs.declared.views.View.{View}

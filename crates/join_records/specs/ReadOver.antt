@@ -1,7 +1,7 @@
 -- Over which members and paths can the rows of a join be read? (Our own.)
 use Rattle.std.specs.Prelude.{List, [], ◌∷◌, map}
 use Rattle.std.specs.List.{AllByRecursion}
-use Rattle.key_order.specs.KeyFields.{AreBytes}
+use Rattle.access_path.specs.KeyFields.{AreBytes}
 use Rattle.key_pages.specs.EntryList.{EntryList}
 use Rattle.member_slots.specs.Members.{NumberedMembers}
 use Rattle.dds_logical.specs.declared.join_views.JoinedFile.{JoinedFile}

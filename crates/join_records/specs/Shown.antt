@@ -10,7 +10,7 @@ use Rattle.dds_logical.specs.declared.join_views.JoinedField.{JoinedField}
 use Rattle.dds_logical.specs.declared.join_views.JoinView.{JoinView}
 use Rattle.dds_logical.specs.JoinLines.{fields_at}
 use Rattle.logical_paths.specs.KeyedFiles.{IsRecord}
-use Rattle.view_rules.specs.Shown.{HasValue}
+use Rattle.logical_paths.specs.Shown.{HasValue}
 use Rattle.join_records.specs.Linked.{AreFieldsOf, IsShownFrom}
 
 -- the value of a field in a row of these records

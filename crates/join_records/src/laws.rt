@@ -5,7 +5,7 @@ ghost use Rattle.std.specs.Ordering.{is_eq};
 ghost use Rattle.member_slots.specs.Members.{NumberedMembers};
 ghost use Rattle.key_pages.specs.EntryList.{EntryList};
 ghost use Rattle.dds_source.specs.declared.specifications.Source.{Source};
-ghost use Rattle.dds_physical.specs.declared.physical_files.PhysicalSpec.{PhysicalSpec};
+ghost use Rattle.logical_paths.below.dds_physical.specs.declared.physical_files.PhysicalSpec.{PhysicalSpec};
 ghost use Rattle.dds_logical.specs.declared.join_views.JoinView.{JoinView};
 ghost use Rattle.dds_logical.specs.declared.views.LogicalSpec.{LogicalSpec};
 ghost use Rattle.dds_logical.specs.declared.views.LogicalSpec.TheVariants.{Join};

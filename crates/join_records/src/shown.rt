@@ -10,8 +10,8 @@ ghost use Rattle.join_records.specs.Shown.{HasValueIn, IsShownBy, visible_in};
 
 use dds_logical::join_views::{JoinView, JoinedField};
 use field_types::values::Value;
+use logical_paths::view_rules::viewing;
 use std::alloc::{AllocError, Global};
-use view_rules::viewing;
 
 /// The values that a join shows of a row of these records, the primary's first, in the order of JFILE: one for each field that is
 /// shown.

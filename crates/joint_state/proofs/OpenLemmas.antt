@@ -1,7 +1,7 @@
 -- The members of an open: each is a member of a physical file that is there, and that of the record read last is one of them.
 use Rattle.std.proofs.Common.{◌≡◌, ℕ, zero, suc, ◌+◌, ◌<◌, true, false, List, [], ◌∷◌, slice_get, Option, Some, None, is_some, unwrap_or, subst, refl, sym, ap}
 use Rattle.std.specs.List.{AllByRecursion}
-use Rattle.logical_model.specs.Bases.{FileSpec, PhysicalFile, LogicalFile}
+use Rattle.logical_laws.specs.Bases.{FileSpec, PhysicalFile, LogicalFile}
 use Rattle.member_slots.specs.Members.{member_at}
 use Rattle.library_model.specs.Named.{Named, named}
 use Rattle.lawful_states.specs.State.{State, FileState, MemberStatus, OpenState, JobState, memory_of, fields_of, open_named}

@@ -5,9 +5,9 @@ use Rattle.std.specs.Prelude.{◌≡◌, ℕ, true, Bool, None, is_some, List}
 use Rattle.std.specs.List.{AllByRecursion}
 use Rattle.std.specs.Option.{option_and_then}
 use Rattle.member_slots.specs.Members.{member_at, member_of}
-use Rattle.journal_model.specs.Acts.{acts}
-use Rattle.journal_model.specs.Places.{slot_of}
-use Rattle.journal_model.specs.AtSequence.{IsChained, IsSo, known_after}
+use Rattle.journaled_entries.specs.Acts.{acts}
+use Rattle.journaled_entries.specs.Places.{slot_of}
+use Rattle.journaled_entries.specs.AtSequence.{IsChained, IsSo, known_after}
 use Rattle.library_model.specs.Named.{Named}
 use Rattle.lawful_states.specs.State.{State, FileState, JobState, memory_of}
 use Rattle.lawful_states.specs.SlotChange.{images_of, status_among}

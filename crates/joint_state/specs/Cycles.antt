@@ -4,9 +4,9 @@ use Rattle.std.specs.List.{AllByRecursion}
 use Rattle.member_slots.specs.Members.{NumberedMembers, member_of, with_member}
 use Rattle.member_slots.specs.Member.{changed}
 use Rattle.lock_table.specs.Table.{HoldsChange}
-use Rattle.journal_model.specs.Places.{slot_of}
-use Rattle.journal_model.specs.Replay.{before_of}
-use Rattle.journal_model.specs.Rollback.{MemberChange}
+use Rattle.journaled_entries.specs.Places.{slot_of}
+use Rattle.journaled_entries.specs.Replay.{before_of}
+use Rattle.journaled_entries.specs.Rollback.{MemberChange}
 use Rattle.lawful_states.specs.State.{Memory, CycleState, JobState}
 use Rattle.lawful_states.specs.SlotChange.{images_of}
 use Rattle.lawful_states.specs.Uses.{changes_in}

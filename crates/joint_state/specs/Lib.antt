@@ -13,3 +13,4 @@ pub use Rattle.lawful_states.specs.Lawful
 pub use Rattle.lawful_states.specs.Owners
 pub use Rattle.logical_laws.specs.Found
 pub use Rattle.logical_laws.specs.Mapped
+pub use Rattle.lawful_states.specs.Jobs

@@ -3,7 +3,7 @@ use Rattle.std.specs.Prelude.{◌≡◌, ℕ, ◌+◌, ◌++◌, IsTrue, Ok, Lis
 use Rattle.std.specs.List.{IsDistinct}
 use Rattle.std.specs.Map.{keys_of}
 use Rattle.lawful_states.specs.Owners.{AreApart}
-use Rattle.journal_model.specs.Journal.{AreNumbered}
+use Rattle.journaled_entries.specs.Journal.{AreNumbered}
 use Rattle.library_model.specs.Named.{same_name}
 use Rattle.library_model.specs.declared.requests.Request.{Request}
 use Rattle.library_model.specs.declared.sources.NamedSource.{NamedSource}

@@ -8,7 +8,7 @@ use Rattle.member_slots.specs.declared.member.TheConstants.{MOST_SLOTS, MOST_BYT
 use Rattle.record_fmt.specs.declared.formats.Field.{Field}
 use Rattle.record_fmt.specs.Layout.{record_length}
 use Rattle.record_fmt.specs.Records.{record_held}
-use Rattle.journal_model.specs.Images.{images_of}
+use Rattle.journaled_entries.specs.Images.{images_of}
 use Rattle.journaled_entries.specs.Deposited.{is_of_record}
 use Rattle.library_model.specs.Named.{Named}
 use Rattle.lawful_states.specs.Owners.{Owns}

@@ -3,7 +3,7 @@
 use Rattle.std.specs.Prelude.{◌≡◌, ℕ, Some, IsSome, List, slice_get}
 use Rattle.logical_model.below.dds_logical.specs.declared.views.LogicalSpec.{LogicalSpec}
 use Rattle.library_model.specs.Named.{Named, named}
-use Rattle.logical_model.specs.Bases.{Bases, FileSpec, PhysicalFile, LogicalFile, base_names}
+use Rattle.logical_laws.specs.Bases.{Bases, FileSpec, PhysicalFile, LogicalFile, base_names}
 use Rattle.logical_laws.specs.Mapped.{IsSpecMapped, HoldDefaults}
 use Rattle.lawful_states.specs.State.{FileState, fields_of}
 use Rattle.lawful_states.specs.LogicalFiles.{bases_in}

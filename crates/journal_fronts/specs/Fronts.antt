@@ -7,10 +7,10 @@ use Rattle.receiver_chain.specs.declared.numbers.TheConstants.{FIRST_RECEIVER}
 use Rattle.journal_book.specs.Kept.{SpellEntries}
 use Rattle.library_model.specs.declared.calls.Call.{Call}
 use Rattle.library_model.specs.declared.sources.NamedSource.{NamedSource}
-use Rattle.library_steps.specs.State.{State, memory_of}
-use Rattle.library_steps.specs.Change.{Change}
-use Rattle.library_steps.specs.Step.{change, step}
-use Rattle.library_steps.specs.History.{Outcome, Standing, Failed, Comes, Runs}
+use Rattle.deposited_entries.specs.State.{State, memory_of}
+use Rattle.deposited_entries.specs.Change.{Change}
+use Rattle.deposited_entries.specs.Step.{change, step}
+use Rattle.deposited_entries.specs.History.{Outcome, Standing, Failed, Comes, Runs}
 use Rattle.deposited_entries.specs.Deposits.{switches}
 
 -- the entries of the journal that calls led to; after a failed call those that it was to hold

@@ -4,7 +4,7 @@ use Rattle.store_model.specs.Disk.{Areas, Disk, May}
 use Rattle.journal_book.specs.Book.{BookState}
 use Rattle.journal_book.specs.Kept.{SpellEntries}
 use Rattle.journal_book.proofs.Forcing.{forced_left}
-use Rattle.library_steps.specs.State.{State}
+use Rattle.block_places.specs.State.{State}
 use Rattle.kept_library.specs.Journaled.{IsBookOf, IsJournaled}
 
 -- those that were forced and those that wait are all

@@ -4,7 +4,7 @@ use Rattle.store_model.specs.Disk.{Disk}
 use Rattle.receiver_chain.specs.Chain.{attached_of}
 use Rattle.journal_book.specs.Book.{BookState, Holds, next_of}
 use Rattle.kept_journal.specs.declared.journal.TheConstants.{MUCH}
-use Rattle.library_steps.specs.State.{State}
+use Rattle.block_places.specs.State.{State}
 use Rattle.deposited_entries.specs.Counted.{IsCounted}
 use Rattle.deposited_entries.specs.Groups.{GroupsWithin}
 use Rattle.deposited_entries.specs.Sequences.{SequencesSuffice}

@@ -3,7 +3,7 @@
 use Rattle.std.specs.Prelude.{Bool}
 use Rattle.journal_book.specs.Book.{BookState}
 use Rattle.path_set.specs.KeptPaths.{NumberedPaths}
-use Rattle.library_steps.specs.State.{State}
+use Rattle.block_places.specs.State.{State}
 
 pub record LibraryOver (S : Type 0) : Type 0 where
   pub store : S

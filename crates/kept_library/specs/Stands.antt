@@ -4,8 +4,8 @@ use Rattle.entry_codec.specs.declared.entries.Entry.{Entry}
 use Rattle.library_model.specs.declared.calls.Call.{Call}
 use Rattle.library_model.specs.declared.requests.Request.{Request}
 use Rattle.library_model.specs.declared.sources.NamedSource.{NamedSource}
-use Rattle.library_steps.specs.State.{State, job_at}
-use Rattle.library_steps.specs.History.{is_running, Outcome, Standing, Failed, Comes}
+use Rattle.block_places.specs.State.{State, job_at}
+use Rattle.block_places.specs.History.{is_running, Outcome, Standing, Failed, Comes}
 use Rattle.deposited_entries.specs.Deposits.{switches}
 use Rattle.joint_state.specs.Sound.{IsSound}
 use Rattle.kept_library.specs.Parts.{LibraryOver}

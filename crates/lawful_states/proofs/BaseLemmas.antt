@@ -9,7 +9,7 @@ use Rattle.library_steps.specs.Joins.{RowPlace}
 use Rattle.library_steps.specs.Paths.{PathEntry}
 use Rattle.library_steps.specs.Positions.{Position}
 use Rattle.library_steps.below.lock_table.specs.declared.levels.Call.{Call}
-use Rattle.logical_model.specs.Bases.{FileSpec, PhysicalFile, LogicalFile, base_names}
+use Rattle.library_steps.specs.Bases.{FileSpec, PhysicalFile, LogicalFile, base_names}
 use Rattle.lawful_states.specs.Owners.{has_number}
 use Rattle.lawful_states.specs.Physical.{IsPhysical}
 use Rattle.lawful_states.proofs.ChangeLemmas.{changed-from, named-each_changed, named-file_changed}

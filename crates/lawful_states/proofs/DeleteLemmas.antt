@@ -8,7 +8,7 @@ use Rattle.std.proofs.lemmas.List.Elements.{recursion_from_All}
 use Rattle.library_steps.specs.Rollback.{MemberChange}
 use Rattle.logical_model.below.dds_logical.specs.declared.views.LogicalSpec.{LogicalSpec}
 use Rattle.library_steps.below.lock_table.specs.declared.lock.Lock.{Lock}
-use Rattle.logical_model.specs.Bases.{FileSpec, PhysicalFile, LogicalFile, base_members, base_names}
+use Rattle.library_steps.specs.Bases.{FileSpec, PhysicalFile, LogicalFile, base_members, base_names}
 use Rattle.member_slots.specs.Member.{MemberState, empty_member}
 use Rattle.member_slots.specs.Members.{Numbered, NumberedMembers, AreMembers, member_at, member_of, without_member}
 use Rattle.lawful_states.specs.Owners.{Owns, AreApart, has_number}

@@ -24,7 +24,7 @@ use Rattle.library_steps.specs.Table.{freed}
 use Rattle.commit_level.specs.declared.Level.{Level}
 use Rattle.commit_level.specs.declared.Level.TheVariants as levels
 use Rattle.library_steps.specs.Levels.{locks_after}
-use Rattle.logical_model.specs.Bases.{FileSpec}
+use Rattle.library_steps.specs.Bases.{FileSpec}
 use Rattle.library_steps.specs.State.{State, Receivers, FileState, OpenState, CycleState, JobState, empty_library, memory_of, job_of, job_changed, with_opens, status_changed, new_job, fields_of, format_in}
 use Rattle.library_steps.specs.declared.limits.TheConstants.{MOST_LIBRARY_BYTES}
 use Rattle.library_steps.specs.Ranges.{library_bytes}

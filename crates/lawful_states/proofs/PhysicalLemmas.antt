@@ -1,7 +1,7 @@
 -- Files that are all physical stay so, and the physical file of a name is then the file of this name.
 use Rattle.std.proofs.Common.{◌≡◌, ℕ, Bool, true, false, cond, not, Some, List, [], ◌∷◌, ◌++◌, refl, subst}
 use Rattle.std.specs.Option.{option_and_then}
-use Rattle.logical_model.specs.Bases.{FileSpec, PhysicalFile, LogicalFile}
+use Rattle.library_steps.specs.Bases.{FileSpec, PhysicalFile, LogicalFile}
 use Rattle.library_steps.specs.Named.{Named, named, same_name}
 use Rattle.library_steps.specs.State.{FileState, MemberStatus, status_changed, if_physical, physical_among}
 use Rattle.library_steps.specs.DeleteFile.{without_file}

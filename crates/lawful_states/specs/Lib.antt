@@ -31,3 +31,4 @@ pub use Rattle.library_steps.specs.State
 pub use Rattle.library_steps.specs.Step
 pub use Rattle.library_steps.specs.UniqueKeys
 pub use Rattle.library_steps.specs.Uses
+pub use Rattle.library_steps.specs.Ranges

@@ -1,6 +1,6 @@
 -- Files that are physical ones. (DDS for Physical and Logical Files.)
 use Rattle.std.specs.List.{AllByRecursion}
-use Rattle.logical_model.specs.Bases.{FileSpec, PhysicalFile, LogicalFile}
+use Rattle.library_steps.specs.Bases.{FileSpec, PhysicalFile, LogicalFile}
 use Rattle.library_steps.specs.Named.{Named}
 use Rattle.library_steps.specs.State.{FileState}
 

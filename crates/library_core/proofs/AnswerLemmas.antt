@@ -28,7 +28,7 @@ use Rattle.commitment_requests.below.parts_model.specs.declared.stop.Stop.{Stop}
 use Rattle.commitment_requests.below.parts_model.specs.declared.stop.Stop.TheVariants as stop
 use Rattle.journal_fronts.specs.Deposits.{AreShort, switches}
 use Rattle.forced_calls.proofs.ForcedLemmas.{asked}
-use Rattle.joint_state.specs.Sound.{Does, IsSound, after}
+use Rattle.record_changes.specs.Sound.{Does, IsSound, after}
 use Rattle.sound_histories.proofs.HistoryLemmas.{AnswersStaySound}
 use Rattle.kept_library.specs.Journaled.{IsBookOf, IsJournaled}
 use Rattle.library_core.specs.Laws.{DepositsStay, EntriesMayWait, HasPlaces, PlacesLast}

@@ -33,7 +33,7 @@ use Rattle.library_steps.specs.declared.limits.TheConstants.{LAST_RECEIVER, LAST
 use Rattle.commitment_requests.specs.Answers.{Answers, Gives, reply_of}
 use Rattle.commitment_requests.below.parts_model.specs.declared.stop.Stop.{Stop}
 use Rattle.commitment_requests.below.parts_model.specs.declared.stop.Stop.TheVariants as stop
-use Rattle.joint_state.specs.Sound.{Does, IsSound, after}
+use Rattle.record_changes.specs.Sound.{Does, IsSound, after}
 use Rattle.sound_histories.proofs.HistoryLemmas.{AnswersStaySound}
 use Rattle.kept_library.specs.Journaled.{IsBookOf, IsJournaled}
 use Rattle.library_core.specs.Laws.{DepositsStay, EntriesAreSpelled, HasPlaces, PlacesLast}

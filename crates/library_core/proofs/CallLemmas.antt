@@ -12,7 +12,7 @@ use Rattle.library_steps.specs.State.{State, memory_of, job_at}
 use Rattle.library_steps.specs.Change.{Change, changed}
 use Rattle.library_steps.specs.History.{is_running}
 use Rattle.library_steps.specs.Step.{change, step, MayAnswer}
-use Rattle.joint_state.specs.Sound.{IsSound}
+use Rattle.record_changes.specs.Sound.{IsSound}
 use Rattle.sound_histories.proofs.HistoryLemmas.{AnswersStaySound}
 use Rattle.commitment_requests.specs.Answers.{Answers, reply_of}
 use Rattle.commitment_requests.below.parts_model.specs.declared.stop.Stop.{Stop}

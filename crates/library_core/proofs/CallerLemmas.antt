@@ -4,7 +4,7 @@ use Rattle.library_model.specs.declared.requests.Request.{Request}
 use Rattle.library_model.specs.Ending.{is_end_job}
 use Rattle.library_steps.specs.State.{State, job_at, begun, empty_library}
 use Rattle.library_steps.specs.History.{is_running}
-use Rattle.joint_state.specs.Sound.{IsSound}
+use Rattle.record_changes.specs.Sound.{IsSound}
 use Rattle.library_core.specs.Running.{runs_after}
 use Rattle.kept_library.specs.Parts.{LibraryOver}
 use Rattle.kept_library.specs.Stands.{IsReady}

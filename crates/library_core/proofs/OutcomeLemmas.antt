@@ -22,7 +22,7 @@ use Rattle.library_steps.specs.History.{is_running}
 use Rattle.library_steps.specs.Step.{change, step}
 use Rattle.commitment_requests.below.parts_model.specs.declared.stop.Stop.{Stop}
 use Rattle.commitment_requests.below.parts_model.specs.declared.stop.Stop.TheVariants as stop
-use Rattle.joint_state.specs.Sound.{IsSound, after}
+use Rattle.record_changes.specs.Sound.{IsSound, after}
 use Rattle.sound_histories.proofs.HistoryLemmas.{AnswersStaySound}
 use Rattle.journal_fronts.specs.Fronts.{IsAcknowledged}
 use Rattle.kept_library.specs.Journaled.{IsJournaled}

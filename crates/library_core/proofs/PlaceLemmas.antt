@@ -14,7 +14,7 @@ use Rattle.library_steps.specs.State.{JobState, Memory, State, memory_of, new_jo
 use Rattle.library_steps.specs.Step.{change}
 use Rattle.block_places.specs.Dues.{has_entries, place_used, places_due}
 use Rattle.forced_calls.specs.Forced.{is_nil}
-use Rattle.joint_state.specs.Sound.{Does}
+use Rattle.record_changes.specs.Sound.{Does}
 use Rattle.library_core.specs.Laws.{HasPlaces}
 use Rattle.library_core.specs.Puts.{are_put, places_taken}
 

@@ -4,8 +4,8 @@ use Rattle.member_slots.specs.Members.{NumberedMembers}
 use Rattle.journal_model.specs.Rollback.{MemberChange}
 use Rattle.library_steps.specs.State.{State, JobState, memory_of, job_at, job_of, or_new}
 use Rattle.library_steps.specs.Uses.{changes_in}
-use Rattle.joint_state.specs.Cycles as cycles
-use Rattle.joint_state.specs.Sound.{IsSound}
+use Rattle.record_changes.specs.Cycles as cycles
+use Rattle.record_changes.specs.Sound.{IsSound}
 use Rattle.lawful_states.specs.Back.{member_back}
 use Rattle.commitment_requests.specs.Standing.{StandAsMade}
 

@@ -12,7 +12,7 @@ use Rattle.library_steps.specs.State.{State, begun}
 use Rattle.library_steps.specs.Change.{Change}
 use Rattle.block_places.specs.Dues.{places_due}
 use Rattle.journal_fronts.specs.Deposits.{AreShort, switches}
-use Rattle.joint_state.specs.Sound.{Does, after}
+use Rattle.record_changes.specs.Sound.{Does, after}
 use Rattle.kept_library.specs.Journaled.{MayDeposit}
 use Rattle.library_core.specs.Puts.{places_taken}
 

@@ -21,7 +21,7 @@ use Rattle.commitment_requests.specs.Answers.{reply_of}
 use Rattle.commitment_requests.below.parts_model.specs.declared.stop.Stop.{Stop}
 use Rattle.block_places.specs.Dues.{has_entries}
 use Rattle.forced_calls.specs.Forced.{is_forced}
-use Rattle.joint_state.specs.Sound.{IsSound}
+use Rattle.record_changes.specs.Sound.{IsSound}
 use Rattle.journal_fronts.specs.Fronts.{IsAcknowledged}
 use Rattle.kept_library.specs.Journaled.{IsJournaled}
 use Rattle.library_core.specs.Running.{runs_after}

@@ -6,7 +6,7 @@ ghost use Rattle.kept_journal.specs.Journals.{MayWait};
 ghost use Rattle.built_requests.specs.Built.{is_built};
 ghost use Rattle.journal_fronts.specs.Deposits.{AreShort, switches};
 ghost use Rattle.block_places.specs.Dues.{has_entries};
-ghost use Rattle.joint_state.specs.Sound.{IsSound};
+ghost use Rattle.record_changes.specs.Sound.{IsSound};
 ghost use Rattle.library_model.specs.NeedsMemory.{needs_memory};
 ghost use Rattle.library_model.specs.declared.requests.Request.TheVariants.{ChangeJournal};
 ghost use Rattle.library_model.specs.declared.sources.NamedSource.{NamedSource};

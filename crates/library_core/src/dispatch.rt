@@ -7,7 +7,7 @@ ghost use Rattle.library_steps.specs.State.{memory_of, job_at, job_of};
 ghost use Rattle.library_steps.specs.History.{is_running};
 ghost use Rattle.library_steps.specs.Step.{change};
 ghost use Rattle.library_steps.specs.Uses.{changes_in};
-ghost use Rattle.joint_state.specs.Views.{HaveDefaults};
+ghost use Rattle.record_changes.specs.Views.{HaveDefaults};
 ghost use Rattle.commitment_requests.specs.Answers.{Answers};
 ghost use Rattle.commitment_requests.specs.Standing.{StandAsMade};
 ghost use Rattle.commitment_requests.below.parts_model.specs.declared.stop.Stop.TheVariants.{NoMemory};

@@ -8,7 +8,7 @@ ghost use Rattle.journal_book.specs.Book.{HasMoreRoom};
 ghost use Rattle.journal_book.specs.Kept.{IsForcedOrFrom, SpellEntries};
 ghost use Rattle.built_requests.specs.Built.{is_built};
 ghost use Rattle.journal_fronts.specs.Deposits.{AreShort};
-ghost use Rattle.joint_state.specs.Sound.{IsSound};
+ghost use Rattle.record_changes.specs.Sound.{IsSound};
 ghost use Rattle.library_steps.specs.State.{State, job_at, new_job};
 ghost use Rattle.library_steps.specs.History.{is_running};
 ghost use Rattle.commitment_requests.specs.Indexed.{ArePaths};

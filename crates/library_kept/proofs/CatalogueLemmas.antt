@@ -6,7 +6,7 @@ use Rattle.member_slots.specs.Member.{MemberState, empty_member, cleared, reorga
 use Rattle.member_slots.specs.Members.{Numbered, NumberedMembers, member_at, member_of, put_member, with_member, without_member}
 use Rattle.record_fmt.specs.declared.formats.Field.{Field}
 use Rattle.record_fmt.specs.Layout.{record_length}
-use Rattle.logical_model.specs.Bases.{FileSpec, PhysicalFile, LogicalFile}
+use Rattle.library_steps.specs.Bases.{FileSpec, PhysicalFile, LogicalFile}
 use Rattle.library_model.specs.declared.requests.FileMember.{FileMember}
 use Rattle.library_model.specs.Named.{Named, named}
 use Rattle.library_steps.specs.CreateLogicalFile.{NewLogical, logical_file, with_logical}

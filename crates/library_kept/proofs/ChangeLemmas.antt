@@ -22,7 +22,7 @@ use Rattle.library_steps.specs.ChangeRecord.{update_plan, update_change, delete_
 use Rattle.library_steps.specs.History.{is_running}
 use Rattle.library_steps.specs.Locking.{locks_left, with_locks, not_locked, few_locks}
 use Rattle.library_steps.specs.Ranges.{library_bytes}
-use Rattle.logical_model.specs.Formats.{given_in}
+use Rattle.library_steps.specs.Formats.{given_in}
 use Rattle.library_steps.specs.LogicalFiles.{bases_of}
 use Rattle.library_steps.specs.Reads.{at_format}
 use Rattle.library_steps.specs.Records.{live_record, record_in, slot_there}

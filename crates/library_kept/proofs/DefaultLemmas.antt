@@ -22,16 +22,16 @@ use Rattle.dds_source.specs.declared.specifications.Source.{Source}
 use Rattle.dds_source.specs.declared.specifications.Specification.{Specification}
 use Rattle.dds_source.specs.declared.specifications.SpecificationKind.{SpecificationKind}
 use Rattle.dds_source.specs.declared.specifications.SpecificationKind.TheVariants as kinds
-use Rattle.dds_physical.specs.declared.physical_files.PhysicalSpec.{PhysicalSpec}
-use Rattle.dds_physical.specs.Defaults.{default_of, default_faults, default_keyword_faults, given_default, in_code_page, is_refused, literal_of, unspecified, value_or}
-use Rattle.dds_physical.specs.Draft.{nothing}
-use Rattle.dds_physical.specs.Keywords.{arguments_of, first_named}
-use Rattle.dds_physical.specs.Names.{name_of}
-use Rattle.dds_physical.specs.Lines.{described, described_of, line_faults, line_faults_of, lines_described, lines_faults, or_those, type_faults, unless_faulty, with_field, with_named_field, with_key}
-use Rattle.dds_physical.specs.Physical.{draft_of, faults_of, finished, physical_of, specification}
-use Rattle.dds_physical.specs.References.{reference_file, typed}
-use Rattle.dds_physical.specs.WholeFile.{whole_faults}
-use Rattle.dds_physical.proofs.FaultLemmas.{nothing_noted}
+use Rattle.library_steps.below.dds_physical.specs.declared.physical_files.PhysicalSpec.{PhysicalSpec}
+use Rattle.library_steps.specs.Defaults.{default_of, default_faults, default_keyword_faults, given_default, in_code_page, is_refused, literal_of, unspecified, value_or}
+use Rattle.library_steps.specs.Draft.{nothing}
+use Rattle.library_steps.specs.Keywords.{arguments_of, first_named}
+use Rattle.library_steps.specs.Names.{name_of}
+use Rattle.library_steps.specs.Lines.{described, described_of, line_faults, line_faults_of, lines_described, lines_faults, or_those, type_faults, unless_faulty, with_field, with_named_field, with_key}
+use Rattle.library_steps.specs.Physical.{draft_of, faults_of, finished, physical_of, specification}
+use Rattle.library_steps.specs.References.{reference_file, typed}
+use Rattle.library_steps.specs.WholeFile.{whole_faults}
+use Rattle.library_steps.proofs.FaultLemmas.{nothing_noted}
 use Rattle.joint_state.specs.Mapped.{HoldDefaults}
 use Rattle.library_kept.proofs.FieldLemmas.{typed-allowed, unless-ok}
 use Rattle.library_kept.proofs.ListLemmas.{each-append}

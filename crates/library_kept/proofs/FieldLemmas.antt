@@ -23,17 +23,17 @@ use Rattle.dds_source.specs.declared.specifications.Specification.{Specification
 use Rattle.dds_source.specs.declared.specifications.SpecificationKind.{SpecificationKind}
 use Rattle.dds_source.specs.declared.specifications.SpecificationKind.TheVariants as kinds
 use Rattle.dds_source.specs.Faults.{first_after}
-use Rattle.dds_physical.specs.declared.physical_files.PhysicalSpec.{PhysicalSpec}
-use Rattle.dds_physical.specs.Attributes.{kind_of, are_decimals_wrong, sized, attributes_of_kind, attributes, length_of, decimals_of}
-use Rattle.dds_physical.specs.Names.{name_of}
-use Rattle.dds_physical.specs.References.{typed, typed_by, referenced, reference_file}
-use Rattle.dds_physical.specs.Described.{IsDescribed}
-use Rattle.dds_physical.specs.Lines.{with_field, with_named_field, with_key, described, described_of, lines_described, unless_faulty, line_faults, lines_faults}
-use Rattle.dds_physical.specs.Physical.{physical_of, faults_of, draft_of, finished, specification, specification_unless}
-use Rattle.dds_physical.proofs.DescribedLemmas.{IsDescribed-more}
-use Rattle.dds_physical.proofs.FaultLemmas.{nothing_noted, first_after_append, clear_before}
-use Rattle.dds_physical.specs.Draft.{nothing}
-use Rattle.dds_physical.specs.WholeFile.{whole_faults, file_faults}
+use Rattle.library_steps.below.dds_physical.specs.declared.physical_files.PhysicalSpec.{PhysicalSpec}
+use Rattle.library_steps.specs.Attributes.{kind_of, are_decimals_wrong, sized, attributes_of_kind, attributes, length_of, decimals_of}
+use Rattle.library_steps.specs.Names.{name_of}
+use Rattle.library_steps.specs.References.{typed, typed_by, referenced, reference_file}
+use Rattle.library_steps.specs.Described.{IsDescribed}
+use Rattle.library_steps.specs.Lines.{with_field, with_named_field, with_key, described, described_of, lines_described, unless_faulty, line_faults, lines_faults}
+use Rattle.library_steps.specs.Physical.{physical_of, faults_of, draft_of, finished, specification, specification_unless}
+use Rattle.library_steps.proofs.DescribedLemmas.{IsDescribed-more}
+use Rattle.library_steps.proofs.FaultLemmas.{nothing_noted, first_after_append, clear_before}
+use Rattle.library_steps.specs.Draft.{nothing}
+use Rattle.library_steps.specs.WholeFile.{whole_faults, file_faults}
 use Rattle.lawful_states.specs.Lawful.{HoldsValues}
 
 -- ---- the bytes of a record

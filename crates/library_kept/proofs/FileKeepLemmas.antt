@@ -7,10 +7,10 @@ use Rattle.std.specs.Option.{option_map, option_and_then}
 use Rattle.dds_source.specs.declared.faults.DdsFault.{DdsFault}
 use Rattle.dds_source.specs.declared.specifications.Source.{Source}
 use Rattle.dds_source.specs.Reading.{source_of}
-use Rattle.dds_physical.specs.declared.physical_files.PhysicalSpec.{PhysicalSpec}
+use Rattle.library_steps.below.dds_physical.specs.declared.physical_files.PhysicalSpec.{PhysicalSpec}
 use Rattle.logical_model.below.dds_logical.specs.declared.views.LogicalSpec.{LogicalSpec}
-use Rattle.logical_model.specs.Bases.{FileSpec, PhysicalFile, LogicalFile, base_members, base_names}
-use Rattle.logical_model.specs.FilePaths.{logical_paths}
+use Rattle.library_steps.specs.Bases.{FileSpec, PhysicalFile, LogicalFile, base_members, base_names}
+use Rattle.library_steps.specs.FilePaths.{logical_paths}
 use Rattle.joint_state.specs.Mapped.{HoldDefaults}
 use Rattle.joint_state.proofs.MappedLemmas.{described-mapped, described-there}
 use Rattle.lawful_states.specs.Owners.{Owns, AreApart, has_number, numbers_of}

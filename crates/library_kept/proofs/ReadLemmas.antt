@@ -2,7 +2,7 @@
 use Rattle.std.proofs.Common.{◌≡◌, ℕ, zero, suc, ◌-◌, ◌<◌, if◌then◌else◌, IsTrue, Bool, true, false, Option, Some, None, is_some, IsSome, IfSome, slice_get, Ok, List, [], ◌∷◌, map, Contains, refl, sym, ◌∙◌, ap, subst, arith}
 use Rattle.std.proofs.lemmas.List.Elements.{All-contains_itself, recursion_from_All}
 use Rattle.std.specs.List.{AllByRecursion}
-use Rattle.dds_physical.specs.declared.physical_files.PhysicalSpec.{PhysicalSpec}
+use Rattle.library_steps.below.dds_physical.specs.declared.physical_files.PhysicalSpec.{PhysicalSpec}
 use Rattle.logical_model.below.dds_logical.specs.declared.views.LogicalSpec.{LogicalSpec}
 use Rattle.logical_model.below.dds_logical.specs.declared.views.LogicalSpec.TheVariants.{Simple, Multi, Join}
 use Rattle.logical_model.below.dds_logical.specs.declared.join_views.JoinView.{JoinView}
@@ -12,8 +12,8 @@ use Rattle.file_model.specs.Joins.{RowPlace}
 use Rattle.file_model.specs.KeyOrder.{KeyValue}
 use Rattle.file_model.specs.Paths.{PathEntry, compare_entries, entries_of, entry_of, selected_of}
 use Rattle.file_model.specs.Positions.{Position, Reading, arrival_entry, chain_key, chain_number}
-use Rattle.logical_model.specs.Bases.{FileSpec, PhysicalFile, LogicalFile, base_members}
-use Rattle.logical_model.specs.Readings.{join_in, logical_reading, physical_reading, reading_in, rows_reading}
+use Rattle.library_steps.specs.Bases.{FileSpec, PhysicalFile, LogicalFile, base_members}
+use Rattle.library_steps.specs.Readings.{join_in, logical_reading, physical_reading, reading_in, rows_reading}
 use Rattle.joint_state.proofs.FoundLemmas.{entry-stands, row-stands}
 use Rattle.joint_state.proofs.ListLemmas.{each-in_order}
 use Rattle.member_slots.specs.Member.{records}

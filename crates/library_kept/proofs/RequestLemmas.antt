@@ -43,8 +43,8 @@ use Rattle.library_steps.specs.Step.{change}
 use Rattle.library_steps.specs.Uses.{user_of, unused}
 use Rattle.library_steps.specs.WriteRecord.{write_plan, write_change, write_call}
 use Rattle.logical_model.below.dds_logical.specs.declared.views.LogicalSpec.{LogicalSpec}
-use Rattle.logical_model.specs.Bases.{FileSpec, PhysicalFile, LogicalFile, base_members, base_names}
-use Rattle.logical_model.specs.Readings.{join_in}
+use Rattle.library_steps.specs.Bases.{FileSpec, PhysicalFile, LogicalFile, base_members, base_names}
+use Rattle.library_steps.specs.Readings.{join_in}
 use Rattle.lawful_states.specs.Lawful.{IsOfMember, IsOverBases, OpensBy, OpensFile, OpenHolds}
 use Rattle.lawful_states.proofs.BaseLemmas.{OpenHolds-alike, OpenHolds-positioned}
 use Rattle.lawful_states.proofs.FindLemmas.{found-is, member-there}

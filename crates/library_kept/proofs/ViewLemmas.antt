@@ -2,7 +2,7 @@
 use Rattle.std.proofs.Common.{◌≡◌, ℕ, IsSome, Some, List, refl, sym, subst}
 use Rattle.std.specs.List.{AllByRecursion}
 use Rattle.logical_model.below.dds_logical.specs.declared.views.LogicalSpec.{LogicalSpec}
-use Rattle.logical_model.specs.Bases.{FileSpec, PhysicalFile, LogicalFile, base_names}
+use Rattle.library_steps.specs.Bases.{FileSpec, PhysicalFile, LogicalFile, base_names}
 use Rattle.joint_state.proofs.SameLemmas.{same-mapped}
 use Rattle.library_model.specs.Named.{Named, named}
 use Rattle.library_steps.specs.DeleteFile.{without_file}

@@ -1,6 +1,6 @@
-pub use Rattle.file_catalogue.specs.Bodies
-pub use Rattle.job_table.specs.Changes
-pub use Rattle.job_table.specs.Table
+pub use Rattle.parts_model.specs.Bodies
+pub use Rattle.parts_model.specs.Changes
+pub use Rattle.parts_model.specs.Table
 pub use Rattle.parts_model.specs.Answers
 pub use Rattle.parts_model.specs.Deposits
 pub use Rattle.parts_model.specs.Files

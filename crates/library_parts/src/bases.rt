@@ -1,16 +1,16 @@
 //! The base files of a library's logical files.
 ghost use Rattle.std.specs.Prelude.{◌≡◌, IfOk};
 ghost use Rattle.library_steps.specs.LogicalFiles.{bases_in};
-ghost use Rattle.logical_model.specs.Bases.{LogicalFile};
-ghost use Rattle.logical_model.specs.FilePaths.{logical_paths};
+ghost use Rattle.library_steps.specs.Bases.{LogicalFile};
+ghost use Rattle.library_steps.specs.FilePaths.{logical_paths};
 ghost use Rattle.parts_model.specs.Steps.{own_path};
 ghost use Rattle.parts_model.specs.Indexed.{rows_paths};
 
 use crate::contents::Contents;
 use field_types::names::Name;
-use file_catalogue::Catalogue;
 use file_model::paths::PathSpec;
-use logical_model::dds_logical::LogicalSpec;
+use library_steps::logical_model::dds_logical::LogicalSpec;
+use parts_model::file_catalogue::Catalogue;
 use parts_model::view_records::logical_paths::bases::BaseFiles;
 use parts_model::view_records::logical_paths::paths::{logical_paths, own_path};
 use record_fmt::formats::Field;

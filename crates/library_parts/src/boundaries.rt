@@ -30,10 +30,10 @@ use crate::members::of_bytes;
 use commit_level::Level;
 use entry_codec::{Draft, EntryKind};
 use field_types::names::Name;
-use job_table::{Undo, UndoParts, Undos};
 use member_slots::members::Members;
 use member_slots::slot::Slot;
 use parts_model::Origin;
+use parts_model::job_table::{Undo, UndoParts, Undos};
 use parts_model::memory_journal::MemoryJournal;
 use parts_model::path_set::set::PathSet;
 

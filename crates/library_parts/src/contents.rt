@@ -7,10 +7,10 @@ ghost use Rattle.parts_model.specs.Indexed.{ArePaths};
 ghost use Rattle.lawful_states.specs.Lawful.{IsLibrary};
 
 use field_types::names::Name;
-use file_catalogue::Catalogue;
-use job_table::Jobs;
 use lock_table::LockTable;
 use member_slots::members::Members;
+use parts_model::file_catalogue::Catalogue;
+use parts_model::job_table::Jobs;
 use parts_model::memory_journal::MemoryJournal;
 use parts_model::path_set::set::PathSet;
 use std::alloc::{AllocError, Global};

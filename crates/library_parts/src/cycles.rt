@@ -14,7 +14,7 @@ ghost use Rattle.parts_model.specs.Rooms.{HasUndoRoom};
 
 use crate::contents::Contents;
 use commit_level::Level;
-use job_table::Undo;
+use parts_model::job_table::Undo;
 
 impl Contents {
     /// Whether the job has an open under commitment control.

@@ -12,17 +12,17 @@ ghost use Rattle.lawful_states.specs.Physical.{IsPhysical};
 ghost use Rattle.parts_model.specs.Finds.{ShowsOpen, FindsOpen, FindsMember, IsFormatIn, ReadsMember};
 ghost use Rattle.lawful_states.specs.Members.{HasMember};
 ghost use Rattle.parts_model.specs.Indexed.{IsViewBeside};
-ghost use Rattle.job_table.specs.Opens.{AllOfNumber};
+ghost use Rattle.parts_model.specs.Opens.{AllOfNumber};
 ghost use Rattle.library_model.specs.Named.{named};
 ghost use Rattle.parts_model.specs.Reads.{ReadsAs, orders_in};
 
 use crate::contents::Contents;
 use entry_codec::FileKind;
 use field_types::names::Name;
-use file_catalogue::{File, MemberStatus};
-use job_table::{Open, OpenAt};
 use library_model::replies::{LimitKind, Missing, Reply};
 use library_steps::limits::LAST_SEQUENCE;
+use parts_model::file_catalogue::{File, MemberStatus};
+use parts_model::job_table::{Open, OpenAt};
 use parts_model::{MemberFound, OpenFound, Stop};
 
 impl Contents {

@@ -24,12 +24,12 @@ use crate::contents::Contents;
 use crate::given::unique_path;
 use crate::texts::are_bytes;
 use field_types::names::Name;
-use file_catalogue::File;
 use file_model::paths::PathSpec;
-use job_table::{Undo, Undos};
 use key_pages::Key;
 use library_model::replies::Reply;
 use member_slots::slot::Slot;
+use parts_model::file_catalogue::File;
+use parts_model::job_table::{Undo, Undos};
 use parts_model::{Reservation, Stop, Test};
 use std::alloc::AllocError;
 

@@ -17,12 +17,12 @@ ghost use Rattle.parts_model.specs.declared.stop.Stop.TheVariants.{Refused};
 ghost use Rattle.lawful_states.specs.Calls.{IsRead, IsWrite};
 
 use crate::contents::Contents;
-use job_table::OpenAt;
 use library_model::replies::{LimitKind, Reply};
 use library_steps::limits::{MOST_GROUP_BYTES, MOST_GROUP_CHANGES};
 use lock_table::{Call, Held, Holder, Level, LockKind, MOST_LOCKS, RecordId, Wanted, asked};
 use member_slots::slot::Slot;
 use parts_model::Stop;
+use parts_model::job_table::OpenAt;
 
 impl Contents {
     /// The lock level of an open of the job; `None` where it isn't under commitment control.

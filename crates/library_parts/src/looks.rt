@@ -3,8 +3,8 @@ ghost use Rattle.std.specs.Prelude.{◌≡◌};
 
 use crate::contents::Contents;
 use entry_codec::Entry;
-use file_catalogue::Catalogue;
 use member_slots::members::Members;
+use parts_model::file_catalogue::Catalogue;
 
 impl Contents {
     /// Its files, in order of creation.

@@ -4,7 +4,7 @@ ghost use Rattle.std.specs.Option.{option_copied};
 ghost use Rattle.member_slots.specs.declared.slot.Slot.TheVariants.{Live, Deleted};
 ghost use Rattle.member_slots.specs.Member.{FitsSlot, cleared, is_full, reorganized, slot_at};
 ghost use Rattle.member_slots.specs.Members.{AreMembers, member_at, member_of, with_item};
-ghost use Rattle.key_order.specs.KeyFields.{AreBytes};
+ghost use Rattle.access_path.specs.KeyFields.{AreBytes};
 ghost use Rattle.parts_model.specs.MemberSteps.{image_in};
 ghost use Rattle.library_steps.specs.declared.limits.TheConstants.{MOST_LIBRARY_BYTES};
 ghost use Rattle.library_steps.specs.Ranges.{library_bytes};

@@ -11,8 +11,8 @@ ghost use Rattle.library_steps.specs.Reads.{open_changed};
 ghost use Rattle.library_steps.specs.ChangeRecord.{without_current, without_record};
 ghost use Rattle.library_steps.specs.Locking.{is_committed, with_locks};
 ghost use Rattle.library_steps.specs.EndJob.{job_ended};
-ghost use Rattle.job_table.specs.Table.{HasRoomFor};
-ghost use Rattle.job_table.specs.declared.jobs.TheConstants.{LAST_OPEN};
+ghost use Rattle.parts_model.specs.Table.{HasRoomFor};
+ghost use Rattle.parts_model.below.job_table.specs.declared.jobs.TheConstants.{LAST_OPEN};
 ghost use Rattle.parts_model.specs.Finds.{OpensMembers};
 ghost use Rattle.lawful_states.specs.Calls.{AsksNone, IsOfOpen};
 ghost use Rattle.parts_model.specs.Locks.{HasLockRoom};
@@ -23,9 +23,9 @@ use crate::cycles::level_due;
 use crate::leave::leave;
 use field_types::lists::ListOf;
 use field_types::names::Name;
-use job_table::OpenReads;
 use library_model::requests::OpenFile;
 use lock_table::{Call, Holder, Level, RecordId};
+use parts_model::job_table::OpenReads;
 
 impl Contents {
     /// How many opens the job has, and how many it has had.

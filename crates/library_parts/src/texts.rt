@@ -1,7 +1,7 @@
 //! Values that are given have texts of bytes.
 ghost use Rattle.std.specs.Prelude.{All};
-ghost use Rattle.key_order.specs.GivenValues.{IsOfBytes};
-ghost use Rattle.key_order.specs.KeyFields.{AreBytes};
+ghost use Rattle.access_path.specs.GivenValues.{IsOfBytes};
+ghost use Rattle.access_path.specs.KeyFields.{AreBytes};
 
 use field_types::values::Value;
 

@@ -1,6 +1,6 @@
 -- Whose path is it? (Database Programming, "Describing access paths for database files".)
 use Rattle.std.specs.Prelude.{◌≡◌, ℕ, nat_lt, true, Some, is_some, List, length, Contains}
-use Rattle.dds_physical.specs.declared.physical_files.PhysicalSpec.{PhysicalSpec}
+use Rattle.library_steps.below.dds_physical.specs.declared.physical_files.PhysicalSpec.{PhysicalSpec}
 use Rattle.file_model.specs.declared.paths.PathSpec.{PathSpec}
 use Rattle.file_model.specs.FilePaths.{physical_path}
 use Rattle.library_model.specs.Named.{Named, named}

@@ -4,7 +4,7 @@ ghost use Rattle.std.specs.List.{AllByRecursion, IsDistinct};
 ghost use Rattle.std.specs.Map.{keys_of};
 ghost use Rattle.key_pages.specs.declared.entries.Entry.{Entry};
 ghost use Rattle.member_slots.specs.Members.{Numbered, NumberedMembers, item_at};
-ghost use Rattle.dds_physical.specs.declared.physical_files.PhysicalSpec.{PhysicalSpec};
+ghost use Rattle.library_steps.below.dds_physical.specs.declared.physical_files.PhysicalSpec.{PhysicalSpec};
 ghost use Rattle.file_model.specs.declared.paths.PathSpec.{PathSpec};
 ghost use Rattle.file_model.specs.FilePaths.{physical_path};
 ghost use Rattle.logical_model.specs.Bases.{PhysicalFile};

@@ -2,7 +2,7 @@
 -- "Deleting database records" and "Releasing record locks".)
 use Rattle.std.specs.Prelude.{ℕ, ◌==◌, ◌&&◌, ◌||◌, Bool, not, None, Result, Ok, if◌then◌else◌, unwrap_or}
 use Rattle.std.specs.List.{list_any}
-use Rattle.member_slots.specs.declared.slot.Slot.TheVariants.{Live, Deleted}
+use Rattle.logical_model.below.member_slots.specs.declared.slot.Slot.TheVariants.{Live, Deleted}
 use Rattle.lock_table.specs.declared.levels.Call.TheVariants.{Update, Delete, Unlock}
 use Rattle.lock_table.specs.Lock.{is_of_open_on, is_of_group_on}
 use Rattle.library_model.specs.declared.requests.OpenName.{OpenName}

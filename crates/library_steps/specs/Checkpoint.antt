@@ -8,8 +8,8 @@ use Rattle.journal_model.below.entry_codec.specs.declared.kinds.Images.TheVarian
 use Rattle.journal_model.below.entry_codec.specs.declared.kinds.FileKind.TheVariants.{Physical, Logical}
 use Rattle.journal_model.below.entry_codec.specs.declared.kinds.EntryKind.{EntryKind}
 use Rattle.journal_model.below.entry_codec.specs.declared.kinds.EntryKind.TheVariants.{FileCreated, MemberAdded, JournalingStarted, InitialSlot, JournalingEnded}
-use Rattle.member_slots.specs.Member.{records}
-use Rattle.member_slots.specs.Members.{member_of}
+use Rattle.logical_model.specs.Member.{records}
+use Rattle.logical_model.specs.Members.{member_of}
 use Rattle.logical_model.specs.Bases.{FileSpec, PhysicalFile, LogicalFile}
 use Rattle.library_model.specs.declared.replies.Reply.{Reply}
 use Rattle.library_model.specs.declared.replies.Reply.TheVariants.{PendingChanges, NotJournaled, LimitReached, Sequence}

@@ -3,8 +3,8 @@ use Rattle.std.specs.Prelude.{ℕ, ◌+◌, true, false, nat_le, nat_lt, Option,
 use Rattle.std.specs.Option.{is_some, option_map}
 use Rattle.journal_model.below.entry_codec.specs.declared.kinds.FileKind.TheVariants.{Physical}
 use Rattle.journal_model.below.entry_codec.specs.declared.kinds.EntryKind.TheVariants.{FileCreated}
-use Rattle.member_slots.specs.Member.{empty_member}
-use Rattle.member_slots.specs.Members.{put_member}
+use Rattle.logical_model.specs.Member.{empty_member}
+use Rattle.logical_model.specs.Members.{put_member}
 use Rattle.record_fmt.specs.declared.formats.Format.{Format}
 use Rattle.record_fmt.specs.Layout.{record_length}
 use Rattle.dds_physical.below.dds_source.specs.declared.faults.DdsFault.{DdsFault}

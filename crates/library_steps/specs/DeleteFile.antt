@@ -2,7 +2,7 @@
 use Rattle.std.specs.Prelude.{ℕ, Bool, true, false, if◌then◌else◌, not, filter, Option, Some, None, Result, Ok, Err, List, [], ◌∷◌}
 use Rattle.std.specs.List.{list_any}
 use Rattle.journal_model.below.entry_codec.specs.declared.kinds.EntryKind.TheVariants.{FileDeleted}
-use Rattle.member_slots.specs.Members.{NumberedMembers, without_member}
+use Rattle.logical_model.specs.Members.{NumberedMembers, without_member}
 use Rattle.dds_physical.below.dds_source.specs.declared.faults.DdsFault.{DdsFault}
 use Rattle.dds_physical.below.dds_source.specs.declared.specifications.Source.{Source}
 use Rattle.dds_physical.specs.Reading.{source_of}

@@ -4,8 +4,8 @@ use Rattle.std.specs.Prelude.{ℕ, ◌+◌, Bool, true, false, Option, Some, Non
 use Rattle.journal_model.below.entry_codec.specs.declared.entries.Draft.{Draft}
 use Rattle.journal_model.below.entry_codec.specs.declared.kinds.EntryKind.{EntryKind}
 use Rattle.journal_model.below.entry_codec.specs.declared.kinds.EntryKind.TheVariants.{RecordAdded, RecordAddedAtNumber, BeforeImage, AfterImage, RecordDeleted, InitialSlot}
-use Rattle.member_slots.specs.declared.slot.Slot.{Slot}
-use Rattle.member_slots.specs.declared.slot.Slot.TheVariants.{Live, Deleted}
+use Rattle.logical_model.below.member_slots.specs.declared.slot.Slot.{Slot}
+use Rattle.logical_model.below.member_slots.specs.declared.slot.Slot.TheVariants.{Live, Deleted}
 use Rattle.library_steps.specs.State.{Memory, job_of}
 
 -- who deposits, and when

@@ -3,8 +3,8 @@ use Rattle.std.specs.Prelude.{ℕ, ◌+◌, true, false, Some, None, Result, Ok,
 use Rattle.std.specs.Option.{is_some, is_none}
 use Rattle.journal_model.below.entry_codec.specs.declared.kinds.Images.{Images}
 use Rattle.journal_model.below.entry_codec.specs.declared.kinds.EntryKind.TheVariants.{JournalingStarted, JournalingEnded}
-use Rattle.member_slots.specs.Member.{records}
-use Rattle.member_slots.specs.Members.{member_of}
+use Rattle.logical_model.specs.Member.{records}
+use Rattle.logical_model.specs.Members.{member_of}
 use Rattle.library_model.specs.declared.requests.FileMember.{FileMember}
 use Rattle.library_model.specs.declared.requests.StartJournaling.{StartJournaling}
 use Rattle.library_model.specs.declared.replies.Reply.{Reply}

@@ -38,3 +38,21 @@ pub use Rattle.lock_table.specs.Lock
 pub use Rattle.lock_table.specs.Table
 pub use Rattle.record_fmt.specs.Layout
 pub use Rattle.record_fmt.specs.Records as RecordFmtRecords
+pub use Rattle.dds_physical.specs.Attributes
+pub use Rattle.dds_physical.specs.Defaults
+pub use Rattle.dds_physical.specs.Described
+pub use Rattle.dds_physical.specs.Draft
+pub use Rattle.dds_physical.specs.Keywords
+pub use Rattle.dds_physical.specs.Lines
+pub use Rattle.dds_physical.specs.Names
+pub use Rattle.dds_physical.specs.Physical
+pub use Rattle.dds_physical.specs.References
+pub use Rattle.dds_physical.specs.WholeFile
+pub use Rattle.logical_model.specs.Bases
+pub use Rattle.logical_model.specs.FilePaths
+pub use Rattle.logical_model.specs.FormatLines
+pub use Rattle.logical_model.specs.Formats
+pub use Rattle.logical_model.specs.Keys
+pub use Rattle.logical_model.specs.Logical
+pub use Rattle.logical_model.specs.Readings
+pub use Rattle.logical_model.specs.SamePaths

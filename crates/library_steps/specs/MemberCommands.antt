@@ -4,8 +4,8 @@ use Rattle.std.specs.Option.{is_some}
 use Rattle.journal_model.below.entry_codec.specs.declared.entries.Draft.{Draft}
 use Rattle.journal_model.below.entry_codec.specs.declared.kinds.EntryKind.{EntryKind}
 use Rattle.journal_model.below.entry_codec.specs.declared.kinds.EntryKind.TheVariants.{MemberAdded, MemberCleared, MemberReorganized}
-use Rattle.member_slots.specs.Member.{MemberState, empty_member, cleared, reorganized}
-use Rattle.member_slots.specs.Members.{member_of, put_member, with_member}
+use Rattle.logical_model.specs.Member.{MemberState, empty_member, cleared, reorganized}
+use Rattle.logical_model.specs.Members.{member_of, put_member, with_member}
 use Rattle.record_fmt.specs.Layout.{record_length}
 use Rattle.library_model.specs.declared.limits.TheConstants.{LAST_MEMBER}
 use Rattle.library_model.specs.declared.requests.FileMember.{FileMember}

@@ -7,9 +7,9 @@ use Rattle.journal_model.below.entry_codec.specs.declared.entries.Entry.{Entry}
 use Rattle.journal_model.below.entry_codec.specs.declared.entries.Draft.{Draft}
 use Rattle.journal_model.below.entry_codec.specs.declared.kinds.EntryKind.{EntryKind}
 use Rattle.journal_model.below.entry_codec.specs.declared.kinds.EntryKind.TheVariants.{ChangesApplied, ChangesRemoved, CommitCycleStarted, CommitCycleCommitted}
-use Rattle.member_slots.specs.declared.slot.Slot.{Slot}
-use Rattle.member_slots.specs.declared.slot.Slot.TheVariants.{Deleted}
-use Rattle.member_slots.specs.Members.{NumberedMembers, member_of, with_member}
+use Rattle.logical_model.below.member_slots.specs.declared.slot.Slot.{Slot}
+use Rattle.logical_model.below.member_slots.specs.declared.slot.Slot.TheVariants.{Deleted}
+use Rattle.logical_model.specs.Members.{NumberedMembers, member_of, with_member}
 use Rattle.journal_model.specs.Acts.{Act, acts}
 use Rattle.journal_model.specs.Places.{slot_of, put_slot}
 use Rattle.journal_model.specs.Walks.{RangeFault, Straddled, Gap, NotRemovable, NeedsBoth, DoesNotFit, Numbered}

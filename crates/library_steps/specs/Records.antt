@@ -9,10 +9,10 @@ use Rattle.field_types.specs.declared.faults.RecordFault.TheVariants.{Count, Bad
 use Rattle.record_fmt.specs.FieldBytes.{fault_of}
 use Rattle.key_spec.specs.declared.KeyPart.{KeyPart}
 use Rattle.key_spec.specs.declared.KeyPart.TheVariants as parts
-use Rattle.member_slots.specs.declared.slot.Slot.{Slot}
-use Rattle.member_slots.specs.declared.slot.Slot.TheVariants.{Live, Deleted}
-use Rattle.member_slots.specs.Member.{slot_at}
-use Rattle.member_slots.specs.Members.{member_of}
+use Rattle.logical_model.below.member_slots.specs.declared.slot.Slot.{Slot}
+use Rattle.logical_model.below.member_slots.specs.declared.slot.Slot.TheVariants.{Live, Deleted}
+use Rattle.logical_model.specs.Member.{slot_at}
+use Rattle.logical_model.specs.Members.{member_of}
 use Rattle.file_model.specs.KeyOrder.{KeyValue, given_key}
 use Rattle.file_model.specs.Paths.{PathEntry}
 use Rattle.file_model.specs.Positions.{Reading}

@@ -7,10 +7,10 @@ use Rattle.journal_model.below.entry_codec.specs.declared.entries.Draft.{Draft}
 use Rattle.journal_model.below.entry_codec.specs.declared.kinds.Images.{Images}
 use Rattle.journal_model.below.entry_codec.specs.declared.kinds.Images.TheVariants.{After, Both}
 use Rattle.journal_model.below.entry_codec.specs.declared.kinds.EntryKind.TheVariants.{CommitCycleStarted}
-use Rattle.member_slots.specs.declared.slot.Slot.{Slot}
-use Rattle.member_slots.specs.declared.slot.Slot.TheVariants.{Live, Deleted}
-use Rattle.member_slots.specs.Member.{MemberState, appended, changed}
-use Rattle.member_slots.specs.Members.{member_of, with_member}
+use Rattle.logical_model.below.member_slots.specs.declared.slot.Slot.{Slot}
+use Rattle.logical_model.below.member_slots.specs.declared.slot.Slot.TheVariants.{Live, Deleted}
+use Rattle.logical_model.specs.Member.{MemberState, appended, changed}
+use Rattle.logical_model.specs.Members.{member_of, with_member}
 use Rattle.journal_model.specs.Rollback.{MemberChange}
 use Rattle.library_model.specs.declared.replies.Reply.{Reply}
 use Rattle.library_model.specs.declared.replies.Reply.TheVariants.{HeldByGroup, LimitReached}

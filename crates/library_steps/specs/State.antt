@@ -8,7 +8,7 @@ use Rattle.journal_model.below.entry_codec.specs.declared.kinds.Images.{Images}
 use Rattle.record_fmt.specs.declared.formats.Field.{Field}
 use Rattle.record_fmt.specs.declared.formats.Format.{Format}
 use Rattle.dds_physical.specs.declared.physical_files.PhysicalSpec.{PhysicalSpec}
-use Rattle.member_slots.specs.Members.{NumberedMembers}
+use Rattle.logical_model.specs.Members.{NumberedMembers}
 use Rattle.lock_table.specs.declared.lock.Lock.{Lock}
 use Rattle.key_spec.specs.declared.KeySpec.{KeySpec}
 use Rattle.key_spec.specs.declared.Ties.TheVariants.{Rising}

@@ -1,9 +1,9 @@
 -- WRITE: a record added past the last place of the member, or at a deleted place. (Database Programming, "Adding database records".)
 use Rattle.std.specs.Prelude.{ℕ, ◌+◌, ◌==◌, ◌||◌, nat_lt, Bool, true, false, not, Option, Some, None, Result, Ok, Err, List, length}
 use Rattle.std.specs.Option.{is_some}
-use Rattle.member_slots.specs.declared.slot.Slot.TheVariants.{Live, Deleted}
-use Rattle.member_slots.specs.Member.{is_full}
-use Rattle.member_slots.specs.Members.{member_of}
+use Rattle.logical_model.below.member_slots.specs.declared.slot.Slot.TheVariants.{Live, Deleted}
+use Rattle.logical_model.specs.Member.{is_full}
+use Rattle.logical_model.specs.Members.{member_of}
 use Rattle.field_types.specs.declared.faults.RecordFault.{RecordFault}
 use Rattle.lock_table.specs.declared.levels.Call.{Call}
 use Rattle.lock_table.specs.declared.levels.Call.TheVariants.{Write, WriteAt}

@@ -7,4 +7,5 @@ pub mod limits;
 pub use dds_physical;
 pub use library_model;
 pub use lock_table;
+pub use logical_model;
 pub use record_fmt;

@@ -17,7 +17,7 @@ use Rattle.library_steps.specs.Refusals.{found, refuse_if, refuse_with}
 use Rattle.library_steps.specs.SlotChange.{with_slot}
 use Rattle.library_steps.specs.Commitment.{start_plan, start_commitment, end_plan, end_commitment, commit, rollback, has_committed_open, taken_back, changes_of, rolled_back_open, without_cycle}
 use Rattle.library_steps.specs.EndJob.{ended_job, end_job}
-use Rattle.lawful_states.specs.Lawful.{AreBased, OpensHold}
+use Rattle.joint_state.specs.Lawful.{AreBased, OpensHold}
 use Rattle.joint_state.specs.Sound.{Does}
 use Rattle.locks_kept.proofs.AroundEffects.{Leaves, AreBelow, create_logical_file-effect, start_journaling-effect, end_journaling-effect, change_journal-effect, delete_receiver-effect, save-effect, display_journal-effect, clear_member-effect, reorganize_member-effect, apply_changes-effect, remove_changes-effect, delete_file-effect, create_physical_file-effect, add_member-effect}
 use Rattle.locks_kept.proofs.ChangeEffects.{write_record-effect, update_record-effect, delete_record-effect}

@@ -41,8 +41,8 @@ use Rattle.library_steps.specs.Checkpoint.{save}
 use Rattle.library_steps.specs.UniqueKeys.{unique_paths, all_apart}
 use Rattle.library_steps.specs.EntrySizes.{entry_bytes}
 use Rattle.library_steps.specs.Ranges.{RangeWork, end_named, range_named, done_or_refused, slots_now, work_of, given_forward, given_back, allowed, library_bytes, with_range, range_change, apply_plan, remove_plan, apply_changes, remove_changes}
-use Rattle.lawful_states.specs.Lawful.{AreBased, IsBased}
-use Rattle.lawful_states.proofs.MemberLemmas.{item_at-put_item_other, item_at-put_item_same, item_at-with_item_other, item_at-without_item_other}
+use Rattle.joint_state.specs.Lawful.{AreBased, IsBased}
+use Rattle.joint_state.proofs.MemberLemmas.{item_at-put_item_other, item_at-put_item_same, item_at-with_item_other, item_at-without_item_other}
 use Rattle.locks_kept.proofs.Effects.{IsAround, Effect, Around, slots_of}
 use Rattle.locks_kept.proofs.RefusalLemmas.{Holds, each-holds, found-holds, refuse_with-holds, then-holds, bind-holds, does-holds, wider-holds}
 use Rattle.locks_kept.proofs.TestLemmas.{or_true}

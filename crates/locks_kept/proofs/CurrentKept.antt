@@ -39,8 +39,8 @@ use Rattle.library_steps.specs.ChangeRecord.{is_current, without_record}
 use Rattle.library_steps.specs.Commitment.{boundary_locks, taken_back, committed_open, at_boundary, rolled_back_open, without_cycle, with_level, changes_of}
 use Rattle.library_steps.specs.EndJob.{ended_job}
 use Rattle.library_steps.specs.Uses.{has_open_over, changes_in}
-use Rattle.lawful_states.specs.Lawful.{OpenHolds, OpensHold}
-use Rattle.lawful_states.specs.Calls.{IsRead, AsksNone}
+use Rattle.joint_state.specs.Lawful.{OpenHolds, OpensHold}
+use Rattle.joint_state.specs.Calls.{IsRead, AsksNone}
 use Rattle.joint_state.specs.Opens.{IsBefore, AreToldApart}
 use Rattle.joint_state.specs.CurrentRecords.{keeps_record, CurrentStands, AllCurrentStand}
 use Rattle.joint_state.specs.Sound.{IsSound, Does, after}

@@ -18,7 +18,7 @@ use Rattle.library_steps.specs.ChangeRecord.{without_current, without_record}
 use Rattle.library_steps.specs.Commitment.{boundary_locks, committed_open, rolled_back_open, without_cycle, with_level, taken_back, changes_of, has_committed_open}
 use Rattle.library_steps.specs.EndJob.{ended_job}
 use Rattle.library_steps.specs.Uses.{user_of}
-use Rattle.lawful_states.specs.Calls.{IsRead, AsksNone}
+use Rattle.joint_state.specs.Calls.{IsRead, AsksNone}
 
 abbrev pub slots_of : (number : ℕ) → Memory → List Slot
 slots_of number m = (member_of number m.members).slots

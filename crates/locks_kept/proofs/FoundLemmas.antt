@@ -24,8 +24,8 @@ use Rattle.file_model.specs.Sorting.{put_in_order, in_order}
 use Rattle.file_model.specs.Positions.{Reading, Position, arrival_entry, side_of, next_from, prior_from, next_equal, prior_equal, where_equal, chain_key, chain_number}
 use Rattle.logical_model.specs.Bases.{Bases, base_members}
 use Rattle.logical_model.specs.Readings.{physical_reading, logical_reading, rows_reading}
-use Rattle.logical_laws.specs.Found.{StandsIn}
-use Rattle.logical_laws.proofs.FoundLemmas.{entry-stands, row-stands}
+use Rattle.joint_state.specs.Found.{StandsIn}
+use Rattle.joint_state.proofs.FoundLemmas.{entry-stands, row-stands}
 use Rattle.library_steps.specs.State.{Memory}
 use Rattle.library_steps.specs.Records.{live_record, record_in}
 use Rattle.locks_kept.proofs.ListLemmas.{all-append, all-filter, all-from, all-map, all-weaker}

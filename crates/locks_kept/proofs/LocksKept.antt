@@ -9,7 +9,7 @@ use Rattle.entry_codec.specs.declared.entries.Entry.{Entry}
 use Rattle.member_slots.specs.declared.slot.Slot.{Slot}
 use Rattle.member_slots.specs.declared.slot.Slot.TheVariants.{Live, Deleted}
 use Rattle.member_slots.specs.Members.{member_at, member_of}
-use Rattle.lawful_states.specs.Jobs.{HasBegun}
+use Rattle.joint_state.specs.Jobs.{HasBegun}
 use Rattle.lock_table.specs.declared.levels.Call.{Call}
 use Rattle.lock_table.specs.declared.levels.Call.TheVariants.{InputRead, UpdateRead, Update, Delete, Write, WriteAt, Unlock, Position, Close, Commit, Rollback, EndCommitment, EndJob}
 use Rattle.lock_table.specs.declared.levels.Wanted.{Wanted}
@@ -30,9 +30,9 @@ use Rattle.library_steps.specs.ChangeRecord.{without_record}
 use Rattle.library_steps.specs.Commitment.{boundary_locks, taken_back, committed_open, rolled_back_open, without_cycle, with_level, changes_of}
 use Rattle.library_steps.specs.EndJob.{ended_job}
 use Rattle.library_steps.specs.Uses.{user_of}
-use Rattle.lawful_states.specs.Calls.{IsRead, IsWrite, AsksNone}
-use Rattle.lawful_states.proofs.FindLemmas.{IsMember, opened-there as member_there, opened-members}
-use Rattle.lawful_states.proofs.MemberLemmas.{IsThere-is_some}
+use Rattle.joint_state.specs.Calls.{IsRead, IsWrite, AsksNone}
+use Rattle.joint_state.proofs.FindLemmas.{IsMember, opened-there as member_there, opened-members}
+use Rattle.joint_state.proofs.MemberLemmas.{IsThere-is_some}
 use Rattle.joint_state.specs.Locks.{LockStands, HasOpenOf, is_through}
 use Rattle.joint_state.specs.Sound.{IsSound, Does, after}
 use Rattle.locks_kept.proofs.AllEffects.{effect-of}

@@ -42,8 +42,8 @@ use Rattle.library_steps.specs.Records.{key_asked, number_asked}
 use Rattle.library_steps.specs.Opens.{first_unjournaled, may_commit, may_commit_all, may_not, members_by, open_plan, open_file, close_file}
 use Rattle.library_steps.specs.Reads.{at_format, open_changed, bound_asked, position_plan, position_change, positioned, set_lower_limit, set_greater_than, default_read, read_call, Found, FoundEntry, find_in, if_lockable, current_after, has_read, stands_on, read_change, read_plan, read, read_prior, read_equal_plan, read_equal, read_prior_equal, chained, chain_plan, chain}
 use Rattle.library_steps.specs.ChangeRecord.{has_open_lock, has_boundary_lock, without_current, unlock_plan, unlock_change, unlock}
-use Rattle.lawful_states.specs.Lawful.{OpensHold}
-use Rattle.lawful_states.specs.Calls.{IsRead, AsksNone}
+use Rattle.joint_state.specs.Lawful.{OpensHold}
+use Rattle.joint_state.specs.Calls.{IsRead, AsksNone}
 use Rattle.locks_kept.proofs.AroundEffects.{Leaves}
 use Rattle.locks_kept.proofs.Effects.{IsAlike, IsSameOpen, alike, Opening, Closing, Use}
 use Rattle.locks_kept.proofs.FoundLemmas.{next_from-holds, prior_from-holds, next_equal-holds, prior_equal-holds, chain_key-holds, chain_number-holds}

@@ -15,7 +15,7 @@ use Rattle.library_steps.specs.LogicalFiles.{bases_of}
 use Rattle.library_steps.specs.Records.{is_keyed, reading_of}
 use Rattle.library_steps.specs.Reads.{Found, at_format, entry_found, find_by, find_in, row_found}
 use Rattle.library_steps.specs.Refusals.{OpenedFile}
-use Rattle.lawful_states.specs.Lawful.{OpenHolds, OpensBy, OpensFile, OpensHold}
+use Rattle.joint_state.specs.Lawful.{OpenHolds, OpensBy, OpensFile, OpensHold}
 use Rattle.locks_kept.proofs.FoundLemmas.{IsIn, Stands, logical-stands, physical-stands, rows-stand}
 use Rattle.locks_kept.proofs.ListLemmas.{all-weaker, at-place}
 use Rattle.locks_kept.proofs.OpenLemmas.{named-holds}

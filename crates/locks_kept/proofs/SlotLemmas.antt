@@ -12,7 +12,7 @@ use Rattle.library_steps.specs.State.{Memory}
 use Rattle.library_steps.specs.Records.{record_in, live_record}
 use Rattle.library_steps.specs.SlotChange.{slot_put, with_slot}
 use Rattle.library_steps.specs.Commitment.{taken_back}
-use Rattle.lawful_states.proofs.MemberLemmas.{item_at-with_item_other, item_at-with_item_same, length-changed, length-push}
+use Rattle.joint_state.proofs.MemberLemmas.{item_at-with_item_other, item_at-with_item_same, length-changed, length-push}
 use Rattle.locks_kept.proofs.Effects.{slots_of}
 use Rattle.locks_kept.proofs.OptionLemmas.{nothing-there}
 

@@ -1,13 +1,13 @@
 -- A member that no job uses has no open over it and no lock.
 use Rattle.std.proofs.Common.{◌≡◌, ℕ, zero, suc, ◌+◌, ◌-◌, ◌<◌, ◌==◌, ◌&&◌, ◌||◌, Bool, true, false, if◌then◌else◌, length, List, [], ◌∷◌, Some, None, slice_get, refl, sym, ◌∙◌, ap, subst, arith}
 use Rattle.std.specs.List.{AllByRecursion, list_any}
-use Rattle.lawful_states.specs.Jobs.{HasBegun}
+use Rattle.joint_state.specs.Jobs.{HasBegun}
 use Rattle.lock_table.specs.declared.lock.Lock.{Lock}
 use Rattle.lock_table.specs.Lock.{is_open, is_boundary_in}
 use Rattle.library_steps.specs.State.{Memory, OpenState, JobState, job_of, or_new}
 use Rattle.library_steps.specs.Uses.{first_job, user_of, uses, has_open_over, has_changed, has_boundary_lock}
-use Rattle.lawful_states.specs.Lawful.{OpenHolds, OpensHold}
-use Rattle.lawful_states.proofs.BackLemmas.{neither}
+use Rattle.joint_state.specs.Lawful.{OpenHolds, OpensHold}
+use Rattle.joint_state.proofs.BackLemmas.{neither}
 use Rattle.joint_state.specs.Locks.{LockStands, is_through}
 use Rattle.locks_kept.proofs.JobLemmas.{job_at-place}
 use Rattle.locks_kept.proofs.ListLemmas.{any-wider_of, at-place}

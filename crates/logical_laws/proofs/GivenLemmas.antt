@@ -12,9 +12,9 @@ use Rattle.field_types.specs.declared.faults.ValueFault.{ValueFault}
 use Rattle.field_types.specs.declared.faults.ValueFault.TheVariants.{ReadOnlyField}
 use Rattle.field_types.specs.declared.faults.RecordFault.{RecordFault}
 use Rattle.field_types.specs.declared.faults.RecordFault.TheVariants.{Count}
-use Rattle.field_values.specs.FieldTypes.{IsFieldType, width}
-use Rattle.field_values.specs.FieldBytes.{held, written, fault_of}
-use Rattle.field_values.proofs.FieldLemmas.{field, held-char}
+use Rattle.field_laws.specs.FieldTypes.{IsFieldType, width}
+use Rattle.field_laws.specs.FieldBytes.{held, written, fault_of}
+use Rattle.field_laws.proofs.FieldLemmas.{field, held-char}
 use Rattle.field_laws.proofs.WrittenLemmas.{stands-written}
 use Rattle.file_model.below.record_fmt.specs.declared.formats.Field.{Field}
 use Rattle.file_model.specs.Layout.{record_length, lies_from, IsLaidOut}

@@ -3,7 +3,7 @@ use Rattle.std.specs.Prelude.{◌≡◌, ℕ, None, Option, Some, List, Contains
 use Rattle.std.specs.List.{AllByRecursion}
 use Rattle.field_types.specs.declared.kinds.Kind.TheVariants.{Char}
 use Rattle.field_types.specs.declared.kinds.FieldType.{FieldType}
-use Rattle.field_values.specs.FieldBytes.{fault_of}
+use Rattle.field_laws.specs.FieldBytes.{fault_of}
 use Rattle.file_model.below.record_fmt.specs.declared.formats.Field.{Field}
 use Rattle.file_model.specs.declared.views.FieldSource.{FieldSource}
 use Rattle.file_model.specs.declared.views.FieldSource.TheVariants.{Copied, Converted, Concatenated, Substring}

@@ -15,3 +15,5 @@ pub use Rattle.dds_logical.specs.KeywordRules
 pub use Rattle.dds_logical.specs.Logical
 pub use Rattle.dds_logical.specs.Origins
 pub use Rattle.dds_logical.specs.WholeFile
+pub use Rattle.member_slots.specs.Member
+pub use Rattle.member_slots.specs.Members

@@ -3,3 +3,4 @@
 #![tactic(auto)]
 
 pub use dds_logical;
+pub use member_slots;

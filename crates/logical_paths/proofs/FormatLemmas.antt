@@ -7,8 +7,8 @@ use Rattle.member_slots.specs.declared.slot.Slot.{Slot}
 use Rattle.member_slots.specs.declared.slot.Slot.TheVariants.{Live, Deleted}
 use Rattle.member_slots.specs.Member.{records_from}
 use Rattle.member_slots.specs.Members.{NumberedMembers, member_of}
-use Rattle.record_fmt.specs.declared.formats.Field.{Field}
-use Rattle.record_fmt.specs.Layout.{IsLaidOut}
+use Rattle.file_model.below.record_fmt.specs.declared.formats.Field.{Field}
+use Rattle.file_model.specs.Layout.{IsLaidOut}
 use Rattle.access_path.below.key_order.specs.declared.widths.TheConstants.{MOST_POSITIONS}
 use Rattle.access_path.specs.KeyFields.{AreBytes, HasKey, key_width}
 use Rattle.access_path.proofs.ViewLemmas.{view-bytes}

@@ -7,7 +7,7 @@ use Rattle.field_types.specs.declared.kinds.FieldType.{FieldType}
 use Rattle.field_values.specs.FieldTypes.{IsFieldType, width}
 use Rattle.field_values.specs.FieldBytes.{held}
 use Rattle.field_values.specs.FirstBad.{part}
-use Rattle.record_fmt.specs.declared.formats.Field.{Field}
+use Rattle.file_model.below.record_fmt.specs.declared.formats.Field.{Field}
 use Rattle.key_spec.specs.declared.KeyPart.{KeyPart}
 use Rattle.key_spec.specs.declared.KeyPart.TheVariants.{Field as KeyField, Absent}
 use Rattle.access_path.specs.KeyFields.{HasField, HasPosition, HasKey, IsPosition, ArePositions, Matches}

@@ -14,3 +14,4 @@ pub use Rattle.logical_laws.proofs.GivenLemmas
 pub use Rattle.logical_laws.proofs.ListLemmas
 pub use Rattle.logical_laws.proofs.MappedLemmas
 pub use Rattle.physical_paths.proofs.FieldLemmas
+pub use Rattle.dds_physical.proofs.FaultLemmas

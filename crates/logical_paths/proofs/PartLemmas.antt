@@ -11,7 +11,7 @@ use Rattle.std.proofs.lemmas.List.Kept.{AllPairs-cons}
 use lib.Pointwise.{pointwise}
 use Rattle.field_types.specs.declared.kinds.FieldType.{FieldType}
 use Rattle.field_values.specs.FieldTypes.{IsFieldType, width}
-use Rattle.record_fmt.specs.declared.formats.Field.{Field}
+use Rattle.file_model.below.record_fmt.specs.declared.formats.Field.{Field}
 use Rattle.key_spec.specs.declared.KeyPart.{KeyPart}
 use Rattle.key_spec.specs.declared.KeyPart.TheVariants.{Field as KeyField, Absent}
 use Rattle.access_path.below.key_order.specs.declared.widths.TheConstants.{MOST_POSITIONS}

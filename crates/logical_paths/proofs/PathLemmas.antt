@@ -5,9 +5,9 @@ use Rattle.std.specs.List.{AllByRecursion, cons_option}
 use Rattle.std.proofs.lemmas.Bool.{cond-false, ne_eqb}
 use Rattle.std.proofs.lemmas.List.{append_assoc}
 use Rattle.field_values.specs.FieldTypes.{width}
-use Rattle.record_fmt.specs.declared.formats.Field.{Field}
-use Rattle.record_fmt.specs.Layout.{lies_from, IsLaidOut}
-use Rattle.record_fmt.proofs.LayoutLemmas.{lies-parts}
+use Rattle.file_model.below.record_fmt.specs.declared.formats.Field.{Field}
+use Rattle.file_model.specs.Layout.{lies_from, IsLaidOut}
+use Rattle.file_model.proofs.LayoutLemmas.{lies-parts}
 use Rattle.key_spec.specs.declared.KeyPart.{KeyPart}
 use Rattle.key_spec.specs.declared.KeyPart.TheVariants.{Field as KeyField}
 use Rattle.file_model.specs.declared.paths.PathSpec.{PathSpec}

@@ -4,8 +4,8 @@ use Rattle.std.specs.List.{AllByRecursion, filter_map}
 use Rattle.std.proofs.lemmas.Bool.{cond_both}
 use lib.Pointwise.{pointwise}
 use Rattle.field_types.specs.declared.values.Value.{Value}
-use Rattle.record_fmt.specs.declared.formats.Field.{Field}
-use Rattle.record_fmt.specs.Layout.{lies_from}
+use Rattle.file_model.below.record_fmt.specs.declared.formats.Field.{Field}
+use Rattle.file_model.specs.Layout.{lies_from}
 use Rattle.file_model.specs.declared.rules.Choice.{Choice}
 use Rattle.file_model.specs.declared.rules.Choice.TheVariants.{Select, Omit}
 use Rattle.file_model.specs.declared.rules.Relation.{Relation}

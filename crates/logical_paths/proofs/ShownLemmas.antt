@@ -10,9 +10,9 @@ use Rattle.field_types.specs.declared.values.Value.{Value}
 use Rattle.field_values.specs.FieldTypes.{IsFieldType, width, width_of}
 use Rattle.field_values.specs.FieldBytes.{held, held_as, as_held, filled}
 use Rattle.field_values.specs.FirstBad.{part}
-use Rattle.field_laws.proofs.WrittenLemmas.{stands-written}
-use Rattle.record_fmt.specs.declared.formats.Field.{Field}
-use Rattle.record_fmt.specs.Layout.{record_length, lies_from}
+use Rattle.logical_laws.proofs.WrittenLemmas.{stands-written}
+use Rattle.file_model.below.record_fmt.specs.declared.formats.Field.{Field}
+use Rattle.file_model.specs.Layout.{record_length, lies_from}
 use Rattle.file_model.specs.declared.rules.Condition.{Condition}
 use Rattle.file_model.specs.declared.rules.Rules.{Rules}
 use Rattle.file_model.specs.declared.rules.Statement.{Statement}

@@ -3,8 +3,8 @@ use Rattle.std.proofs.Common.{◌≡◌, ℕ, zero, suc, ◌+◌, ◌<◌, ◌�
 use Rattle.std.specs.Prelude.{All, AllPairs}
 use Rattle.std.specs.List.{AllByRecursion}
 use Rattle.std.proofs.lemmas.List.Elements.{All-from_recursion}
-use Rattle.record_fmt.specs.declared.formats.Field.{Field}
-use Rattle.record_fmt.specs.Layout.{IsLaidOut}
+use Rattle.file_model.below.record_fmt.specs.declared.formats.Field.{Field}
+use Rattle.file_model.specs.Layout.{IsLaidOut}
 use Rattle.key_spec.specs.declared.KeyPart.{KeyPart}
 use Rattle.key_spec.specs.declared.KeyPart.TheVariants.{Field as KeyField, Absent}
 use Rattle.access_path.below.key_order.specs.declared.widths.TheConstants.{MOST_POSITIONS}

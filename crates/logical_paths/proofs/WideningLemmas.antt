@@ -16,8 +16,8 @@ use Rattle.field_values.specs.FieldTypes.{IsFieldType, is_allowed, is_between, i
 use Rattle.field_values.specs.FieldBytes.{held, as_held, fault_of, number_fault, units_at}
 use Rattle.field_values.specs.Moments.{is_moment}
 use Rattle.field_values.proofs.ScaleLemmas.{some-power, number_fault-Ok}
-use Rattle.field_laws.proofs.AcceptedLemmas.{held-kept}
-use Rattle.field_laws.proofs.WrittenLemmas.{number-small}
+use Rattle.logical_laws.proofs.AcceptedLemmas.{held-kept}
+use Rattle.logical_laws.proofs.WrittenLemmas.{number-small}
 use Rattle.dds_logical.specs.Fields.{kind_letter, are_alike}
 
 -- ---- kinds

@@ -7,8 +7,8 @@ use Rattle.field_types.specs.declared.kinds.FieldType.{FieldType}
 use Rattle.field_types.specs.declared.values.Value.{Value}
 use Rattle.field_values.specs.FieldTypes.{IsFieldType}
 use Rattle.field_values.specs.FieldBytes.{held, fault_of}
-use Rattle.record_fmt.specs.declared.formats.Field.{Field}
-use Rattle.record_fmt.specs.Layout.{IsLaidOut}
+use Rattle.file_model.below.record_fmt.specs.declared.formats.Field.{Field}
+use Rattle.file_model.specs.Layout.{IsLaidOut}
 use Rattle.key_spec.specs.declared.KeyPart.{KeyPart}
 use Rattle.key_spec.specs.declared.KeyPart.TheVariants.{Field as KeyField, Absent}
 use Rattle.access_path.below.key_order.specs.declared.widths.TheConstants.{MOST_POSITIONS}

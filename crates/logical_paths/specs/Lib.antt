@@ -3,3 +3,9 @@ pub mod KeyedViews
 pub use Rattle.logical_laws.specs.Found
 pub use Rattle.logical_laws.specs.Mapped
 pub use Rattle.physical_paths.specs.KeyedFiles
+pub use Rattle.dds_physical.specs.Attributes
+pub use Rattle.dds_physical.specs.KeywordRules
+pub use Rattle.dds_physical.specs.Keywords
+pub use Rattle.dds_physical.specs.Names
+pub use Rattle.view_rules.specs.Shown
+pub use Rattle.view_rules.specs.Stored

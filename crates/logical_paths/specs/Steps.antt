@@ -2,7 +2,7 @@
 use Rattle.std.specs.Prelude.{ℕ, ◌+◌, false, List, [], ◌∷◌, ◌++◌, map, Option, Some, None}
 use Rattle.std.specs.List.{AllByRecursion}
 use Rattle.field_values.specs.FieldTypes.{IsFieldType}
-use Rattle.record_fmt.specs.declared.formats.Field.{Field}
+use Rattle.file_model.below.record_fmt.specs.declared.formats.Field.{Field}
 use Rattle.key_spec.specs.declared.KeyPart.{KeyPart}
 use Rattle.file_model.specs.declared.joins.JoinField.{JoinField}
 use Rattle.file_model.specs.declared.joins.JoinPair.{JoinPair}

@@ -1,9 +1,9 @@
 //! The base files of a logical file.
 ghost use Rattle.std.specs.Prelude.{◌≡◌};
-ghost use Rattle.record_fmt.specs.Layout.{IsLaidOut};
+ghost use Rattle.file_model.specs.Layout.{IsLaidOut};
 
 use field_types::names::Name;
-use record_fmt::formats::Field;
+use file_model::record_fmt::formats::Field;
 
 /// The base files of a logical file: the number of the member that it stands over, and the fields of its records.
 pub trait BaseFiles {

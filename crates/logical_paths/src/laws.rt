@@ -1,7 +1,7 @@
 //! What holds of the access paths of logical files, as contracts of functions that do nothing.
 ghost use Rattle.std.specs.Prelude.{◌≡◌, ◌≤◌, ℕ, Option, Some, Ok, List, map, length, All};
 ghost use Rattle.member_slots.specs.Members.{NumberedMembers};
-ghost use Rattle.record_fmt.specs.declared.formats.Field.{Field};
+ghost use Rattle.file_model.below.record_fmt.specs.declared.formats.Field.{Field};
 ghost use Rattle.access_path.below.key_order.specs.declared.widths.TheConstants.{MOST_POSITIONS};
 ghost use Rattle.access_path.specs.KeyFields.{ArePositions, key_width};
 ghost use Rattle.access_path.specs.PathBytes.{IsInBytes};

@@ -8,3 +8,6 @@ mod key_fields;
 pub mod laws;
 pub mod paths;
 pub mod readings;
+
+pub use dds_physical;
+pub use view_rules;

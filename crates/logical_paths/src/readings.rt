@@ -16,7 +16,7 @@ use field_types::lists::ListOf;
 use field_types::texts::Image;
 use field_values::fields;
 use file_model::joins::{JoinField, JoinPair, JoinSpec, Secondary};
-use record_fmt::formats::Field;
+use file_model::record_fmt::formats::Field;
 use std::alloc::{AllocError, Global};
 
 /// What a join is read by. The default values of its secondary files stand where no record is joined.

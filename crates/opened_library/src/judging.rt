@@ -6,7 +6,7 @@ ghost use Rattle.library_steps.specs.State.{memory_of};
 ghost use Rattle.kept_library.specs.Counted.{HasBytes};
 ghost use Rattle.kept_library.specs.Journaled.{MayDeposit};
 
-use file_catalogue::{Catalogue, File};
+use described_journals::file_catalogue::{Catalogue, File};
 use library_steps::limits::LAST_SEQUENCE;
 use member_slots::members::Members;
 use restarted_library::library_parts::Contents;

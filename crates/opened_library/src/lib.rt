@@ -5,4 +5,5 @@ mod building;
 mod judging;
 mod opening;
 
+pub use kept_library;
 pub use opening::open_library;

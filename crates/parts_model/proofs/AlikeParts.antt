@@ -10,7 +10,7 @@ use Rattle.key_spec.specs.declared.KeyPart.TheVariants.{Field, Absent}
 use Rattle.logical_model.below.dds_logical.specs.declared.views.View.{View}
 use Rattle.file_model.specs.FilePaths.{key_parts}
 use Rattle.file_model.specs.KeyOrder.{KeyValue, either_part, either_parts, given_key, given_value, merged_parts}
-use Rattle.key_order.specs.GivenValues.{fault_before, key_fault, part_fault, value_fault}
+use Rattle.access_path.specs.GivenValues.{fault_before, key_fault, part_fault, value_fault}
 
 -- the field begins at the first byte
 forget : KeyPart → KeyPart

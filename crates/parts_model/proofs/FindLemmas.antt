@@ -1,13 +1,13 @@
 -- What is found by names is there.
 use Rattle.std.proofs.Common.{◌≡◌, ℕ, zero, suc, ◌-◌, true, map, List, [], ◌∷◌, Option, Some, None, IsSome, Result, Ok, Err, slice_get, subst, refl, sym, ◌∙◌, ap, arith, ◌<◌, ◌≤◌, length, unwrap_or}
 use Rattle.lawful_states.proofs.NameLemmas.{some-equal}
-use Rattle.logical_model.specs.Formats.{format_names}
+use Rattle.library_steps.specs.Formats.{format_names}
 use Rattle.logical_model.below.dds_logical.specs.declared.views.View.{View}
 use Rattle.std.specs.List.{AllByRecursion}
 use Rattle.logical_model.below.dds_logical.specs.declared.views.LogicalSpec.TheVariants.{Simple, Multi, Join}
 use Rattle.record_fmt.specs.declared.formats.Field.{Field}
 use Rattle.record_fmt.specs.Layout.{IsLaidOut}
-use Rattle.logical_model.specs.Bases.{Bases, FileSpec, PhysicalFile, LogicalFile, base_names}
+use Rattle.library_steps.specs.Bases.{Bases, FileSpec, PhysicalFile, LogicalFile, base_names}
 use Rattle.lawful_states.specs.Owners.{has_number}
 use Rattle.lawful_states.specs.Physical.{IsPhysical}
 use Rattle.library_model.specs.declared.requests.OpenFile.{OpenFile}

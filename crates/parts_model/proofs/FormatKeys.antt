@@ -5,9 +5,9 @@ use Rattle.std.specs.List.{AllByRecursion}
 use Rattle.std.proofs.lemmas.List.Elements.{All-from_recursion, recursion_from_All}
 use Rattle.key_spec.specs.declared.KeyPart.{KeyPart}
 use Rattle.key_spec.specs.declared.KeyPart.TheVariants.{Field, Absent}
-use Rattle.key_order.specs.declared.widths.TheConstants.{MOST_POSITIONS}
-use Rattle.key_order.specs.KeyFields.{ArePositions, IsPosition}
-use Rattle.dds_physical.specs.declared.physical_files.PhysicalSpec.{PhysicalSpec}
+use Rattle.access_path.below.key_order.specs.declared.widths.TheConstants.{MOST_POSITIONS}
+use Rattle.access_path.specs.KeyFields.{ArePositions, IsPosition}
+use Rattle.library_steps.below.dds_physical.specs.declared.physical_files.PhysicalSpec.{PhysicalSpec}
 use Rattle.logical_model.below.dds_logical.specs.declared.views.View.{View}
 use Rattle.logical_model.below.dds_logical.specs.declared.views.LogicalSpec.{LogicalSpec}
 use Rattle.logical_model.below.dds_logical.specs.declared.views.LogicalSpec.TheVariants.{Simple, Multi, Join}
@@ -16,7 +16,7 @@ use Rattle.file_model.specs.declared.paths.PathSpec.{PathSpec}
 use Rattle.file_model.specs.FilePaths.{key_parts, physical_path}
 use Rattle.file_model.specs.KeyOrder.{either_part, either_parts, merged_parts}
 use Rattle.access_path.specs.PathBytes.{IsInBytes}
-use Rattle.logical_model.specs.Bases.{Bases, LogicalFile, base_names}
+use Rattle.library_steps.specs.Bases.{Bases, LogicalFile, base_names}
 use Rattle.view_records.specs.KeyedViews.{HaveRecords, IsKeyedLogical, IsViewOver, IsKeyedJoin}
 use Rattle.view_records.specs.Steps.{own_path, shown_in_join}
 use Rattle.view_records.proofs.ViewLemmas.{paths-bytes, same-keys, view-allowed, view-few}

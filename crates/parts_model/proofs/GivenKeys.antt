@@ -6,7 +6,7 @@ use Rattle.std.specs.Map.{keys_of}
 use Rattle.std.specs.Option.{option_map}
 use Rattle.std.proofs.lemmas.Bool.Decides.{nat_tests}
 use Rattle.std.proofs.lemmas.List.Elements.{All-from_recursion, recursion_from_All}
-use Rattle.dds_physical.specs.declared.physical_files.PhysicalSpec.{PhysicalSpec}
+use Rattle.library_steps.below.dds_physical.specs.declared.physical_files.PhysicalSpec.{PhysicalSpec}
 use Rattle.logical_model.below.dds_logical.specs.declared.views.LogicalSpec.{LogicalSpec}
 use Rattle.logical_model.below.dds_logical.specs.declared.views.LogicalSpec.TheVariants.{Simple, Multi, Join}
 use Rattle.file_model.specs.declared.paths.PathSpec.{PathSpec}
@@ -14,8 +14,8 @@ use Rattle.file_model.specs.FilePaths.{physical_path}
 use Rattle.file_model.specs.Paths.{repeated_in}
 use Rattle.record_fmt.specs.declared.formats.Field.{Field}
 use Rattle.record_fmt.specs.Layout.{record_length}
-use Rattle.logical_model.specs.Bases.{FileSpec, PhysicalFile, LogicalFile}
-use Rattle.logical_model.specs.FilePaths.{is_over, logical_paths, views_path, primary_path}
+use Rattle.library_steps.specs.Bases.{FileSpec, PhysicalFile, LogicalFile}
+use Rattle.library_steps.specs.FilePaths.{is_over, logical_paths, views_path, primary_path}
 use Rattle.member_slots.specs.declared.slot.Slot.{Slot}
 use Rattle.member_slots.specs.declared.slot.Slot.TheVariants.{Live, Deleted}
 use Rattle.member_slots.specs.Member.{FitsSlot}

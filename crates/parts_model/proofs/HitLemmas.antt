@@ -7,14 +7,14 @@ use Rattle.field_types.specs.declared.faults.RecordFault.{RecordFault}
 use Rattle.field_types.specs.declared.values.Value.{Value}
 use Rattle.key_spec.specs.declared.KeyPart.{KeyPart}
 use Rattle.lawful_states.proofs.NameLemmas.{some-equal}
-use Rattle.file_cursor.specs.declared.places.Hit.{Hit}
-use Rattle.file_cursor.specs.declared.places.Order.{Order}
+use Rattle.job_table.below.file_cursor.specs.declared.places.Hit.{Hit}
+use Rattle.job_table.below.file_cursor.specs.declared.places.Order.{Order}
 use Rattle.file_model.specs.KeyOrder.{given_key, merged_parts}
 use Rattle.file_model.specs.Paths.{PathEntry}
 use Rattle.file_model.specs.Positions.{Position, Reading}
-use Rattle.key_order.specs.GivenValues.{IsOfBytes, key_fault}
-use Rattle.key_order.specs.KeyBytes.{encoded_values}
-use Rattle.key_values.specs.KeyValues.{values_in}
+use Rattle.access_path.specs.GivenValues.{IsOfBytes, key_fault}
+use Rattle.access_path.specs.KeyBytes.{encoded_values}
+use Rattle.open_position.specs.KeyValues.{values_in}
 use Rattle.open_position.specs.declared.reads.ReadBy.{ReadBy}
 use Rattle.open_position.specs.declared.reads.ReadBy.TheVariants as asked
 use Rattle.open_position.specs.Reads.{IsByPath, IsLookedUp, asked_of, entry_hit}

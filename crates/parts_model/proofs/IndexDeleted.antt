@@ -8,12 +8,12 @@ use Rattle.std.proofs.lemmas.Bool.{cases_eq, cond-false}
 use Rattle.std.proofs.lemmas.Bool.Decides.{nat_tests}
 use Rattle.std.proofs.lemmas.List.Elements.{recursion_from_All}
 use Rattle.member_slots.specs.Members.{Numbered, NumberedMembers, item_at}
-use Rattle.dds_physical.specs.declared.physical_files.PhysicalSpec.{PhysicalSpec}
+use Rattle.library_steps.below.dds_physical.specs.declared.physical_files.PhysicalSpec.{PhysicalSpec}
 use Rattle.logical_model.below.dds_logical.specs.declared.views.LogicalSpec.{LogicalSpec}
 use Rattle.file_model.specs.declared.paths.PathSpec.{PathSpec}
 use Rattle.file_model.specs.FilePaths.{physical_path}
-use Rattle.logical_model.specs.Bases.{FileSpec, PhysicalFile, LogicalFile, base_members, Bases}
-use Rattle.logical_model.specs.Formats.{has_key}
+use Rattle.library_steps.specs.Bases.{FileSpec, PhysicalFile, LogicalFile, base_members, Bases}
+use Rattle.library_steps.specs.Formats.{has_key}
 use Rattle.library_paths.proofs.LogicalLawsListLemmas.{each-append, each-contained, each-weaker}
 use Rattle.view_records.specs.Steps.{own_path}
 use Rattle.path_set.specs.declared.moves.PathMove.{PathMove}
@@ -54,7 +54,7 @@ use Rattle.parts_model.proofs.IndexGone.{IsFree, bytes-left, changes-free, has-f
 use Rattle.parts_model.proofs.IndexDetached.{first-found, found_over, none-over}
 use Rattle.logical_model.below.dds_logical.specs.declared.views.LogicalSpec.TheVariants.{Simple, Multi, Join}
 use Rattle.logical_model.below.dds_logical.specs.declared.join_views.JoinView.{JoinView}
-use Rattle.logical_model.specs.FilePaths.{logical_paths}
+use Rattle.library_steps.specs.FilePaths.{logical_paths}
 use Rattle.library_paths.specs.Mapped.{AreSameBases}
 use Rattle.library_paths.proofs.SameLemmas.{same-paths}
 use Rattle.parts_model.proofs.ManyAttached.{giving-each, opens-more}

@@ -14,23 +14,23 @@ use Rattle.access_path.specs.PathBytes.{IsInBytes}
 use Rattle.member_slots.specs.Member.{MemberState, empty_member}
 use Rattle.member_slots.specs.Members.{Numbered, NumberedMembers, member_at, put_member}
 use Rattle.record_fmt.specs.Layout.{IsLaidOut}
-use Rattle.dds_physical.specs.declared.physical_files.PhysicalSpec.{PhysicalSpec}
+use Rattle.library_steps.below.dds_physical.specs.declared.physical_files.PhysicalSpec.{PhysicalSpec}
 use Rattle.dds_source.specs.declared.faults.DdsFault.{DdsFault}
 use Rattle.dds_source.specs.declared.specifications.Source.{Source}
 use Rattle.dds_source.specs.Reading.{source_of}
 use Rattle.dds_source.specs.declared.keywords.Keyword.{Keyword}
 use Rattle.dds_source.specs.Faults.{first_after}
-use Rattle.dds_physical.specs.Physical.{ties_of}
+use Rattle.library_steps.specs.Physical.{ties_of}
 use Rattle.key_spec.specs.declared.KeyPart.{KeyPart}
 use Rattle.key_spec.specs.declared.KeyPart.TheVariants.{Absent}
 use Rattle.key_spec.specs.declared.Ties.TheVariants.{Rising}
-use Rattle.logical_model.specs.FormatLines.{FormatLines, formats_in, is_join_file, is_multi_format}
-use Rattle.logical_model.specs.Keys.{padded}
-use Rattle.logical_model.specs.Logical.{described_by, faults_over, format_parts, join_described_by, logical_faults, logical_of, logical_specification, most_parts, one_or_several, view_described}
+use Rattle.library_steps.specs.FormatLines.{FormatLines, formats_in, is_join_file, is_multi_format}
+use Rattle.library_steps.specs.Keys.{padded}
+use Rattle.library_steps.specs.Logical.{described_by, faults_over, format_parts, join_described_by, logical_faults, logical_of, logical_specification, most_parts, one_or_several, view_described}
 use Rattle.logical_model.below.dds_logical.specs.declared.views.LogicalSpec.{LogicalSpec}
 use Rattle.logical_model.below.dds_logical.specs.declared.views.LogicalSpec.TheVariants.{Simple, Multi, Join}
-use Rattle.logical_model.specs.Bases.{Base, Bases, FileSpec, PhysicalFile, LogicalFile, base_members, base_names}
-use Rattle.logical_model.specs.FilePaths.{logical_paths, view_format, secondary_of}
+use Rattle.library_steps.specs.Bases.{Base, Bases, FileSpec, PhysicalFile, LogicalFile, base_members, base_names}
+use Rattle.library_steps.specs.FilePaths.{logical_paths, view_format, secondary_of}
 use Rattle.library_paths.proofs.LogicalLawsListLemmas.{each-append, each-weaker}
 use Rattle.library_paths.proofs.MappedLemmas.{described-mapped, described-there}
 use Rattle.view_records.specs.KeyedViews.{HaveFewPairs, HaveRecords}

@@ -2,8 +2,8 @@
 use Rattle.std.proofs.Common.{ℕ, ◌≡◌, ◌⊎◌, inl, inr, true, false, cond, List, [], ◌∷◌, ◌++◌, map, Some, refl, sym, ap, arith, ◌∙◌, subst}
 use Rattle.std.specs.List.{AllByRecursion}
 use Rattle.std.specs.Option.{option_map}
-use Rattle.dds_physical.specs.declared.physical_files.PhysicalSpec.{PhysicalSpec}
-use Rattle.logical_model.specs.Bases.{FileSpec, PhysicalFile}
+use Rattle.library_steps.below.dds_physical.specs.declared.physical_files.PhysicalSpec.{PhysicalSpec}
+use Rattle.library_steps.specs.Bases.{FileSpec, PhysicalFile}
 use Rattle.file_catalogue.specs.KeyedFiles.{IsKeyed}
 use Rattle.lawful_states.specs.Statuses.{after}
 use Rattle.lawful_states.specs.declared.changes.StatusChange.{StatusChange}

@@ -9,20 +9,20 @@ use Rattle.std.proofs.lemmas.Bool.Decides.{nat_tests}
 use Rattle.std.proofs.lemmas.List.Elements.{All-from_recursion, recursion_from_All}
 use Rattle.record_fmt.specs.declared.formats.Field.{Field}
 use Rattle.record_fmt.specs.Layout.{record_length}
-use Rattle.key_order.specs.KeyFields.{AreBytes, key_width}
+use Rattle.access_path.specs.KeyFields.{AreBytes, key_width}
 use Rattle.member_slots.specs.declared.slot.Slot.{Slot}
 use Rattle.member_slots.specs.declared.slot.Slot.TheVariants.{Live, Deleted}
 use Rattle.member_slots.specs.Member.{MemberState, FitsSlot, IsMember, empty_member, slot_at}
 use Rattle.member_slots.specs.Members.{Numbered, NumberedMembers, AreMembers, item_at, member_of}
-use Rattle.dds_physical.specs.declared.physical_files.PhysicalSpec.{PhysicalSpec}
+use Rattle.library_steps.below.dds_physical.specs.declared.physical_files.PhysicalSpec.{PhysicalSpec}
 use Rattle.logical_model.below.dds_logical.specs.declared.views.LogicalSpec.{LogicalSpec}
 use Rattle.file_model.specs.declared.paths.PathFormat.{PathFormat}
 use Rattle.file_model.specs.declared.paths.PathSpec.{PathSpec}
 use Rattle.file_model.specs.FilePaths.{key_parts, physical_path}
 use Rattle.access_path.specs.PathBytes.{IsInBytes}
-use Rattle.file_cursor.specs.PositionBytes.{HasKeysWithin}
-use Rattle.logical_model.specs.Bases.{Base, Bases, FileSpec, PhysicalFile, LogicalFile, base_names}
-use Rattle.logical_model.specs.FilePaths.{logical_paths}
+use Rattle.job_table.specs.PositionBytes.{HasKeysWithin}
+use Rattle.library_steps.specs.Bases.{Base, Bases, FileSpec, PhysicalFile, LogicalFile, base_names}
+use Rattle.library_steps.specs.FilePaths.{logical_paths}
 use Rattle.library_paths.proofs.LogicalLawsListLemmas.{each-contained}
 use Rattle.view_records.specs.KeyedViews.{HaveRecords, IsKeyedLogical, IsRecordOfBases}
 use Rattle.path_set.specs.Formats.{IsAskable}

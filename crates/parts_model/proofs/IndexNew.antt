@@ -6,7 +6,7 @@ use Rattle.std.proofs.lemmas.Bool.Decides.{nat_tests}
 use Rattle.record_fmt.specs.declared.formats.Field.{Field}
 use Rattle.member_slots.specs.Member.{MemberState, empty_member}
 use Rattle.member_slots.specs.Members.{NumberedMembers, member_at, member_of}
-use Rattle.dds_physical.specs.declared.physical_files.PhysicalSpec.{PhysicalSpec}
+use Rattle.library_steps.below.dds_physical.specs.declared.physical_files.PhysicalSpec.{PhysicalSpec}
 use Rattle.file_model.specs.FilePaths.{every_record, own_fields, path_format, physical_path}
 use Rattle.file_model.specs.Paths.{entries_in, first_repeated, repeated_in}
 use Rattle.path_set.specs.Repeated.{TellsRepeated}

@@ -11,12 +11,12 @@ use Rattle.member_slots.specs.Members.{Numbered, NumberedMembers}
 use Rattle.file_model.specs.declared.paths.PathFormat.{PathFormat}
 use Rattle.file_model.specs.declared.paths.PathSpec.{PathSpec}
 use Rattle.file_model.specs.FilePaths.{every_record, own_fields, path_format, physical_path}
-use Rattle.dds_physical.specs.declared.physical_files.PhysicalSpec.{PhysicalSpec}
+use Rattle.library_steps.below.dds_physical.specs.declared.physical_files.PhysicalSpec.{PhysicalSpec}
 use Rattle.logical_model.below.dds_logical.specs.declared.views.LogicalSpec.{LogicalSpec}
 use Rattle.logical_model.below.dds_logical.specs.declared.views.LogicalSpec.TheVariants.{Simple, Multi, Join}
-use Rattle.logical_model.specs.Bases.{Bases, FileSpec, PhysicalFile, LogicalFile}
-use Rattle.logical_model.specs.FilePaths.{view_format, secondary_of}
-use Rattle.logical_model.specs.Formats.{has_key}
+use Rattle.library_steps.specs.Bases.{Bases, FileSpec, PhysicalFile, LogicalFile}
+use Rattle.library_steps.specs.FilePaths.{view_format, secondary_of}
+use Rattle.library_steps.specs.Formats.{has_key}
 use Rattle.library_paths.specs.Mapped.{AreSameBases}
 use Rattle.library_paths.proofs.LogicalLawsListLemmas.{each-append, each-contained}
 use Rattle.library_paths.proofs.SameLemmas.{same-paths}

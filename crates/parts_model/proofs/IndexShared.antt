@@ -8,7 +8,7 @@ use Rattle.std.proofs.lemmas.List.Elements.{All-from_recursion, recursion_from_A
 use Rattle.access_path.specs.Moves.{Move}
 use Rattle.member_slots.specs.Members.{Numbered, NumberedMembers, item_at, put_item, with_item, without_item}
 use Rattle.file_model.specs.declared.paths.PathSpec.{PathSpec}
-use Rattle.logical_model.specs.Bases.{Bases, FileSpec, PhysicalFile, LogicalFile, base_names}
+use Rattle.library_steps.specs.Bases.{Bases, FileSpec, PhysicalFile, LogicalFile, base_names}
 use Rattle.path_set.specs.declared.moves.PathMove.{PathMove}
 use Rattle.path_set.specs.KeptPaths.{KeptPath, KeptPaths, NumberedPaths, AreOver, AreShared, spare_of}
 use Rattle.path_set.specs.RecordChanges.{RecordChange, reversed, moves_of, in_path, moves_in}

@@ -5,7 +5,7 @@ use Rattle.std.specs.List.{AllByRecursion}
 use Rattle.member_slots.specs.Members.{NumberedMembers}
 use Rattle.logical_model.below.dds_logical.specs.declared.views.LogicalSpec.{LogicalSpec}
 use Rattle.logical_model.below.dds_logical.specs.declared.views.LogicalSpec.TheVariants.{Simple, Multi, Join}
-use Rattle.logical_model.specs.Bases.{Base, Bases, FileSpec, PhysicalFile, LogicalFile, base_names}
+use Rattle.library_steps.specs.Bases.{Base, Bases, FileSpec, PhysicalFile, LogicalFile, base_names}
 use Rattle.library_paths.specs.Mapped.{AreSameBases}
 use Rattle.library_paths.proofs.SameLemmas.{same-mapped}
 use Rattle.view_records.specs.KeyedViews.{IsKeyedView, IsViewOver, IsFileOver, IsKeyedFile, IsKeyedJoin, IsPartOver}

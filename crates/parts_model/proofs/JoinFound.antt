@@ -25,8 +25,8 @@ use Rattle.key_spec.specs.declared.KeyPart.{KeyPart}
 use Rattle.lawful_states.proofs.NameLemmas.{some-equal}
 use Rattle.library_steps.specs.LogicalFiles.{bases_of}
 use Rattle.library_steps.specs.State.{Memory, OpenState}
-use Rattle.logical_model.specs.Bases.{Bases}
-use Rattle.logical_model.specs.FilePaths.{join_of}
+use Rattle.library_steps.specs.Bases.{Bases}
+use Rattle.library_steps.specs.FilePaths.{join_of}
 use Rattle.member_slots.specs.Members.{NumberedMembers, member_of}
 use Rattle.open_position.specs.declared.reads.ReadBy.{ReadBy}
 use Rattle.parts_model.specs.declared.rows.RowFound.{RowFound}

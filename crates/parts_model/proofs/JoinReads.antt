@@ -12,12 +12,12 @@ use Rattle.file_model.specs.declared.paths.PathSpec.{PathSpec}
 use Rattle.file_model.specs.Joins.{secondary_path}
 use Rattle.join_records.specs.ReadOver.{ArePathsOf, HasDefaults, IsReadOver}
 use Rattle.join_records.specs.Places.{IsPathOf}
-use Rattle.key_order.specs.KeyFields.{AreBytes}
+use Rattle.access_path.specs.KeyFields.{AreBytes}
 use Rattle.key_pages.specs.EntryList.{EntryList}
 use Rattle.library_paths.specs.AllPaths.{AreKeptFor}
 use Rattle.library_paths.specs.Mapped.{HoldDefaults}
-use Rattle.logical_model.specs.Bases.{Bases, LogicalFile}
-use Rattle.logical_model.specs.FilePaths.{primary_path, secondary_of}
+use Rattle.library_steps.specs.Bases.{Bases, LogicalFile}
+use Rattle.library_steps.specs.FilePaths.{primary_path, secondary_of}
 use Rattle.view_records.specs.KeyedViews.{HaveRecords}
 use Rattle.view_records.specs.Steps.{own_path}
 use Rattle.view_records.proofs.ViewLemmas.{paths-bytes}

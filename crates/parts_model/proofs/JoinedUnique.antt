@@ -8,8 +8,8 @@ use Rattle.logical_model.below.dds_logical.specs.declared.join_views.JoinedFile.
 use Rattle.logical_model.below.dds_logical.specs.declared.views.LogicalSpec.TheVariants.{Join}
 use Rattle.file_model.specs.declared.paths.PathSpec.{PathSpec}
 use Rattle.file_model.specs.Joins.{secondary_path}
-use Rattle.logical_model.specs.Bases.{Bases}
-use Rattle.logical_model.specs.FilePaths.{is_over, logical_paths, primary_path, secondary_of}
+use Rattle.library_steps.specs.Bases.{Bases}
+use Rattle.library_steps.specs.FilePaths.{is_over, logical_paths, primary_path, secondary_of}
 use Rattle.library_model.specs.Named.{Named}
 use Rattle.library_steps.specs.LogicalFiles.{bases_in}
 use Rattle.library_steps.specs.State.{FileState, Memory}

@@ -13,10 +13,10 @@ use Rattle.file_model.specs.Views.{view_of}
 use Rattle.file_model.specs.declared.paths.PathFormat.{PathFormat}
 use Rattle.lawful_states.proofs.NameLemmas.{some-equal}
 use Rattle.journal_model.specs.Rollback.{MemberChange}
-use Rattle.key_order.specs.KeyBytes.{encoded}
-use Rattle.key_order.specs.KeyFields.{AreBytes}
-use Rattle.key_order.proofs.KeyLemmas.{Matches-itself, image-fits, keys-cmp}
-use Rattle.key_order.proofs.ViewLemmas.{view-bytes}
+use Rattle.access_path.specs.KeyBytes.{encoded}
+use Rattle.access_path.specs.KeyFields.{AreBytes}
+use Rattle.access_path.proofs.KeyLemmas.{Matches-itself, image-fits, keys-cmp}
+use Rattle.access_path.proofs.ViewLemmas.{view-bytes}
 use Rattle.member_slots.specs.Members.{Numbered, NumberedMembers, item_at}
 use Rattle.member_slots.specs.declared.slot.Slot.{Slot}
 use Rattle.member_slots.specs.declared.slot.Slot.TheVariants.{Live, Deleted}

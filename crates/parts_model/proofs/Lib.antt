@@ -65,3 +65,4 @@ pub mod ShownRows
 pub mod NoteRows
 pub mod DepositLemmas
 pub use Rattle.path_set.proofs.RebuildLemmas
+pub use Rattle.job_table.proofs.FindLemmas as JobTableFindLemmas

@@ -7,8 +7,8 @@ use Rattle.std.proofs.lemmas.List.{take_all}
 use Rattle.std.proofs.lemmas.List.Elements.{filter-append, recursion_from_All}
 use Rattle.member_slots.specs.Members.{Numbered, item_at}
 use Rattle.file_model.specs.declared.paths.PathSpec.{PathSpec}
-use Rattle.logical_model.specs.FilePaths.{is_over}
-use Rattle.logical_model.specs.SamePaths.{count_paths, same_path}
+use Rattle.library_steps.specs.FilePaths.{is_over}
+use Rattle.library_steps.specs.SamePaths.{count_paths, same_path}
 use Rattle.library_paths.proofs.PathLemmas.{path-own, path-told}
 use Rattle.path_set.specs.KeptPaths.{AreShared, KeptPath, NumberedPaths}
 use Rattle.path_set.specs.MemberSteps.{paths_over as kept_over}

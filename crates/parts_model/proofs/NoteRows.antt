@@ -13,7 +13,7 @@ use Rattle.job_table.specs.OpenChanges.{IsRowRead, place_by}
 use Rattle.job_table.specs.Opens.{AllOfNumber, JoinOrder, KeptOpen, OpenOrder}
 use Rattle.job_table.specs.Kept.{IsKeyOf}
 use Rattle.job_table.specs.RowReads.{AreNumbers, CanBeKept, matches_by}
-use Rattle.key_order.specs.KeyFields.{key_width}
+use Rattle.access_path.specs.KeyFields.{key_width}
 use Rattle.key_pages.specs.declared.entries.Entry.{Entry}
 use Rattle.key_spec.specs.declared.KeyPart.{KeyPart}
 use Rattle.library_model.specs.Named.{Named}
@@ -21,8 +21,8 @@ use Rattle.library_steps.specs.LogicalFiles.{bases_of}
 use Rattle.library_steps.specs.Opens.{first_of}
 use Rattle.library_steps.specs.Records.{is_keyed}
 use Rattle.library_steps.specs.State.{FileState, Memory}
-use Rattle.logical_model.specs.Bases.{Bases, FileSpec, LogicalFile}
-use Rattle.logical_model.specs.FilePaths.{primary_path, secondary_of}
+use Rattle.library_steps.specs.Bases.{Bases, FileSpec, LogicalFile}
+use Rattle.library_steps.specs.FilePaths.{primary_path, secondary_of}
 use Rattle.member_slots.specs.Members.{NumberedMembers}
 use Rattle.open_position.specs.OpenStand.{entry_by}
 use Rattle.path_set.specs.KeptPaths.{NumberedPaths}

@@ -8,9 +8,9 @@ use Rattle.key_spec.specs.declared.KeyPart.{KeyPart}
 use Rattle.file_model.specs.declared.paths.PathSpec.{PathSpec}
 use Rattle.file_model.specs.FilePaths.{key_parts, physical_path}
 use Rattle.file_model.specs.Positions.{Start}
-use Rattle.logical_model.specs.Bases.{FileSpec, PhysicalFile, LogicalFile}
-use Rattle.logical_model.specs.Formats.{has_key}
-use Rattle.logical_model.specs.FilePaths.{views_path, primary_path}
+use Rattle.library_steps.specs.Bases.{FileSpec, PhysicalFile, LogicalFile}
+use Rattle.library_steps.specs.Formats.{has_key}
+use Rattle.library_steps.specs.FilePaths.{views_path, primary_path}
 use Rattle.member_slots.specs.Members.{Numbered, NumberedMembers, item_at}
 use Rattle.open_position.specs.OpenStand.{OpenStand}
 use Rattle.path_set.specs.KeptPaths.{AreShared, KeptPath, NumberedPaths}

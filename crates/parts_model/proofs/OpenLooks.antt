@@ -1,7 +1,7 @@
 -- What an open reads by: its order among those of its job, and the kept path of its file, with the entries that the members give it.
 use Rattle.std.proofs.Common.{ℕ, zero, suc, ◌-◌, ◌<◌, ◌≤◌, ◌≡◌, ◌==◌, ◌&&◌, nat_lt, if◌then◌else◌, IsTrue, Bool, true, false, cond, List, [], ◌∷◌, length, get_or, slice_get, Option, Some, map, None, IsSome, refl, sym, ap, arith, ◌∙◌, subst}
 use Rattle.parts_model.proofs.AlikeParts.{views-length}
-use Rattle.logical_model.specs.FilePaths.{view_format}
+use Rattle.library_steps.specs.FilePaths.{view_format}
 use Rattle.file_model.specs.declared.paths.PathFormat.{PathFormat}
 use Rattle.logical_model.below.dds_logical.specs.declared.views.View.{View}
 use Rattle.std.specs.Prelude.{All, AllPairs, unwrap_or}
@@ -17,15 +17,15 @@ use Rattle.member_slots.specs.declared.slot.Slot.{Slot}
 use Rattle.member_slots.specs.declared.slot.Slot.TheVariants.{Live, Deleted}
 use Rattle.member_slots.specs.Member.{MemberState, FitsSlot, IsMember, empty_member}
 use Rattle.member_slots.specs.Members.{Numbered, NumberedMembers, AreMembers, item_at, member_at, member_of}
-use Rattle.dds_physical.specs.declared.physical_files.PhysicalSpec.{PhysicalSpec}
+use Rattle.library_steps.below.dds_physical.specs.declared.physical_files.PhysicalSpec.{PhysicalSpec}
 use Rattle.logical_model.below.dds_logical.specs.declared.views.LogicalSpec.TheVariants.{Simple, Multi, Join}
 use Rattle.file_model.specs.declared.paths.PathSpec.{PathSpec}
 use Rattle.file_model.specs.FilePaths.{key_parts, physical_path}
 use Rattle.file_model.specs.KeyOrder.{merged_parts}
 use Rattle.access_path.specs.PathBytes.{IsInBytes, is_falling}
-use Rattle.file_cursor.specs.PositionBytes.{HasKeysWithin}
-use Rattle.logical_model.specs.Bases.{Bases, FileSpec, PhysicalFile, LogicalFile}
-use Rattle.logical_model.specs.Formats.{has_key, parts_in}
+use Rattle.job_table.specs.PositionBytes.{HasKeysWithin}
+use Rattle.library_steps.specs.Bases.{Bases, FileSpec, PhysicalFile, LogicalFile}
+use Rattle.library_steps.specs.Formats.{has_key, parts_in}
 use Rattle.view_records.proofs.KeyLemmas.{parts-length}
 use Rattle.open_position.specs.Reads.{IsPathOver}
 use Rattle.path_set.specs.declared.moves.PathMove.{PathMove}

@@ -15,10 +15,10 @@ use Rattle.file_model.specs.FilePaths.{key_parts}
 use Rattle.file_model.specs.KeyOrder.{KeyValue, given_key, merged_parts}
 use Rattle.file_model.specs.Paths.{PathEntry}
 use Rattle.file_model.specs.Positions.{Bound, KeyBound, NumberBound, Position, Start, End}
-use Rattle.logical_model.specs.Bases.{Bases, FileSpec, PhysicalFile, LogicalFile}
-use Rattle.logical_model.specs.Formats.{parts_in, has_key}
-use Rattle.logical_model.specs.Readings.{has_numbers, join_in}
-use Rattle.key_order.specs.GivenValues as given
+use Rattle.library_steps.specs.Bases.{Bases, FileSpec, PhysicalFile, LogicalFile}
+use Rattle.library_steps.specs.Formats.{parts_in, has_key}
+use Rattle.library_steps.specs.Readings.{has_numbers, join_in}
+use Rattle.access_path.specs.GivenValues as given
 use Rattle.library_model.specs.declared.replies.Reply.{Reply}
 use Rattle.library_model.specs.declared.replies.Reply.TheVariants.{BadValue, WrongOpen}
 use Rattle.library_model.specs.declared.requests.Limit.{Limit}

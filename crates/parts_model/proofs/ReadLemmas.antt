@@ -17,7 +17,7 @@ use Rattle.member_slots.specs.declared.slot.Slot.{Slot}
 use Rattle.member_slots.specs.declared.slot.Slot.TheVariants.{Live, Deleted}
 use Rattle.member_slots.specs.Member.{IsMember, MemberState, empty_member, records_from, slot_at}
 use Rattle.member_slots.specs.Members.{AreMembers, Numbered, NumberedMembers, member_at, member_of}
-use Rattle.dds_physical.specs.declared.physical_files.PhysicalSpec.{PhysicalSpec}
+use Rattle.library_steps.below.dds_physical.specs.declared.physical_files.PhysicalSpec.{PhysicalSpec}
 use Rattle.file_model.specs.declared.paths.PathFormat.{PathFormat}
 use Rattle.file_model.specs.declared.paths.PathSpec.{PathSpec}
 use Rattle.file_model.specs.FilePaths.{every_record, key_parts, own_fields, path_format, physical_path}
@@ -31,23 +31,23 @@ use Rattle.access_path.specs.PathBytes.{IsInBytes}
 use Rattle.access_path.proofs.OrderedLemmas.{all-in_order}
 use Rattle.logical_model.below.dds_logical.specs.declared.views.LogicalSpec.TheVariants.{Simple, Multi, Join}
 use Rattle.logical_model.below.dds_logical.specs.declared.views.View.{View}
-use Rattle.logical_model.specs.Bases.{Bases, FileSpec, PhysicalFile, LogicalFile, base_members, base_names}
-use Rattle.logical_model.specs.FilePaths.{view_format, views_path}
-use Rattle.logical_model.specs.Formats.{has_key, format_names}
-use Rattle.logical_model.specs.Readings.{reading_in}
-use Rattle.key_order.specs.KeyFields.{key_width}
+use Rattle.library_steps.specs.Bases.{Bases, FileSpec, PhysicalFile, LogicalFile, base_members, base_names}
+use Rattle.library_steps.specs.FilePaths.{view_format, views_path}
+use Rattle.library_steps.specs.Formats.{has_key, format_names}
+use Rattle.library_steps.specs.Readings.{reading_in}
+use Rattle.access_path.specs.KeyFields.{key_width}
 use Rattle.key_pages.specs.EntryList.{EntryList}
-use Rattle.file_cursor.specs.PositionBytes.{HasKeysWithin}
-use Rattle.file_cursor.specs.Reading.{AreNumbered}
-use Rattle.file_cursor.proofs.KeylessLemmas.{keyless}
+use Rattle.job_table.specs.PositionBytes.{HasKeysWithin}
+use Rattle.job_table.specs.Reading.{AreNumbered}
+use Rattle.job_table.proofs.KeylessLemmas.{keyless}
 use Rattle.view_records.specs.KeyedViews.{HaveRecords}
 use Rattle.view_records.proofs.ViewLemmas.{keys-short, paths-bytes}
 use Rattle.file_catalogue.specs.KeyedFiles.{IsKeyed, HasRecordsOf}
 use Rattle.file_catalogue.proofs.RecordLemmas.{keys-within, path-bytes}
 use Rattle.lawful_states.specs.Physical.{IsPhysical}
 use Rattle.lawful_states.proofs.NameLemmas.{some-equal}
-use Rattle.file_cursor.specs.declared.places.Hit.{Hit}
-use Rattle.file_cursor.specs.CursorPosition.{entry_of}
+use Rattle.job_table.below.file_cursor.specs.declared.places.Hit.{Hit}
+use Rattle.job_table.specs.CursorPosition.{entry_of}
 use Rattle.open_position.specs.declared.reads.ReadBy.{ReadBy}
 use Rattle.open_position.specs.OpenStand.{HasNoKey, IsEntryIn}
 use Rattle.open_position.specs.Reads.{IsPathOver, asked_of, entry_hit}

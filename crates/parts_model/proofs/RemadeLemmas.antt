@@ -6,10 +6,10 @@ use Rattle.std.specs.Map.{keys_of}
 use Rattle.std.proofs.lemmas.Bool.{cases_eq}
 use Rattle.std.proofs.lemmas.List.Elements.{All-filter, recursion_from_All}
 use Rattle.record_fmt.specs.declared.formats.Field.{Field}
-use Rattle.dds_physical.specs.declared.physical_files.PhysicalSpec.{PhysicalSpec}
+use Rattle.library_steps.below.dds_physical.specs.declared.physical_files.PhysicalSpec.{PhysicalSpec}
 use Rattle.logical_model.below.dds_logical.specs.declared.views.LogicalSpec.{LogicalSpec}
-use Rattle.logical_model.specs.Bases.{PhysicalFile, LogicalFile}
-use Rattle.logical_model.specs.FilePaths.{logical_paths}
+use Rattle.library_steps.specs.Bases.{PhysicalFile, LogicalFile}
+use Rattle.library_steps.specs.FilePaths.{logical_paths}
 use Rattle.member_slots.specs.declared.slot.Slot.{Slot}
 use Rattle.member_slots.specs.declared.slot.Slot.TheVariants.{Live, Deleted}
 use Rattle.member_slots.specs.Member.{MemberState, cleared, empty_member, is_live, reorganized, slot_at}

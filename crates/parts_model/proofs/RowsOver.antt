@@ -15,7 +15,7 @@ use Rattle.job_table.specs.Opens.{JoinOrder, KeptOpen, OpenOrder, join_by}
 use Rattle.job_table.specs.RowReads.{IsJoinOf}
 use Rattle.job_table.specs.RowStand.{JoinStand}
 use Rattle.join_records.specs.ReadOver.{IsReadOver}
-use Rattle.key_order.specs.KeyFields.{AreBytes}
+use Rattle.access_path.specs.KeyFields.{AreBytes}
 use Rattle.key_pages.specs.EntryList.{EntryList}
 use Rattle.lawful_states.specs.Lawful.{IsBased, IsLibrary, IsThere, StandsOver}
 use Rattle.lawful_states.proofs.BaseLemmas.{some-of}
@@ -27,8 +27,8 @@ use Rattle.library_steps.specs.LogicalFiles.{bases_in}
 use Rattle.library_steps.specs.Opens.{first_of}
 use Rattle.library_steps.specs.Records.{is_keyed}
 use Rattle.library_steps.specs.State.{State, physical_among}
-use Rattle.logical_model.specs.Bases.{Bases, FileSpec, LogicalFile, base_names}
-use Rattle.logical_model.specs.FilePaths.{join_of, primary_path, secondary_of}
+use Rattle.library_steps.specs.Bases.{Bases, FileSpec, LogicalFile, base_names}
+use Rattle.library_steps.specs.FilePaths.{join_of, primary_path, secondary_of}
 use Rattle.view_records.specs.KeyedViews.{HaveRecords}
 use Rattle.member_slots.specs.Members.{AreMembers, Numbered, NumberedMembers, item_at, member_at}
 use Rattle.path_set.specs.declared.moves.PathMove.{PathMove}

@@ -8,8 +8,8 @@ use Rattle.key_spec.specs.declared.Ties.{Ties}
 use Rattle.lawful_states.proofs.NameLemmas.{some-equal}
 use Rattle.library_steps.specs.LogicalFiles.{bases_of}
 use Rattle.library_steps.specs.State.{Memory}
-use Rattle.logical_model.specs.FilePaths.{join_of}
-use Rattle.logical_model.specs.Formats.{images_at, row_at}
+use Rattle.library_steps.specs.FilePaths.{join_of}
+use Rattle.library_steps.specs.Formats.{images_at, row_at}
 use Rattle.parts_model.specs.declared.rows.RowFound.{RowFound}
 use Rattle.parts_model.specs.Rows.{IsRowAt, images_found}
 

@@ -1,7 +1,7 @@
 -- What a file must be to be added to a library, new by its name, with one member of that name that has the next number; and where a member
 -- may be added to a file. (CL reference, CRTPF and ADDPFM.)
 use Rattle.std.specs.Prelude.{◌≡◌, ℕ, ◌<◌, ◌≤◌, Ok, None, IsSome, IfSome, length, List, [], ◌∷◌}
-use Rattle.logical_model.specs.Bases.{base_members}
+use Rattle.library_steps.specs.Bases.{base_members}
 use Rattle.lawful_states.specs.Physical.{IsPhysical}
 use Rattle.library_model.specs.declared.limits.TheConstants.{LAST_MEMBER}
 use Rattle.library_model.specs.Named.{named}

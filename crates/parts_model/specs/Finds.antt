@@ -5,8 +5,8 @@ use Rattle.job_table.specs.Opens.{KeptOpen}
 use Rattle.logical_model.below.dds_logical.specs.declared.views.View.{View}
 use Rattle.logical_model.below.dds_logical.specs.declared.views.LogicalSpec.TheVariants.{Simple, Multi, Join}
 use Rattle.record_fmt.specs.Layout.{IsLaidOut}
-use Rattle.logical_model.specs.Bases.{FileSpec, PhysicalFile, LogicalFile, base_members, base_names}
-use Rattle.logical_model.specs.Formats.{format_names}
+use Rattle.library_steps.specs.Bases.{FileSpec, PhysicalFile, LogicalFile, base_members, base_names}
+use Rattle.library_steps.specs.Formats.{format_names}
 use Rattle.library_model.specs.Named.{Named, named}
 use Rattle.library_model.specs.declared.replies.Reply.{Reply}
 use Rattle.library_steps.specs.LogicalFiles.{bases_in}

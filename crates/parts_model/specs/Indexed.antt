@@ -7,7 +7,7 @@ use Rattle.member_slots.specs.declared.slot.Slot.{Slot}
 use Rattle.member_slots.specs.declared.slot.Slot.TheVariants.{Live, Deleted}
 use Rattle.member_slots.specs.Member.{MemberState}
 use Rattle.member_slots.specs.Members.{NumberedMembers}
-use Rattle.key_order.specs.KeyFields.{AreBytes}
+use Rattle.access_path.specs.KeyFields.{AreBytes}
 use Rattle.key_spec.specs.declared.Ties.TheVariants.{Rising}
 use Rattle.file_model.specs.declared.paths.PathSpec.{PathSpec}
 use Rattle.file_model.specs.FilePaths.{key_parts, physical_path}
@@ -15,8 +15,8 @@ use Rattle.file_model.specs.Joins.{secondary_path}
 use Rattle.logical_model.below.dds_logical.specs.declared.join_views.JoinView.{JoinView}
 use Rattle.logical_model.below.dds_logical.specs.declared.views.LogicalSpec.{LogicalSpec}
 use Rattle.logical_model.below.dds_logical.specs.declared.views.LogicalSpec.TheVariants.{Simple, Multi, Join}
-use Rattle.logical_model.specs.Bases.{Bases, FileSpec, PhysicalFile, LogicalFile, base_names}
-use Rattle.logical_model.specs.FilePaths.{secondary_of}
+use Rattle.library_steps.specs.Bases.{Bases, FileSpec, PhysicalFile, LogicalFile, base_names}
+use Rattle.library_steps.specs.FilePaths.{secondary_of}
 use Rattle.library_paths.specs.Mapped.{AreSameBases, IsSpecMapped}
 use Rattle.view_records.specs.KeyedViews.{IsKeyedLogical}
 use Rattle.view_records.specs.Steps.{own_path}

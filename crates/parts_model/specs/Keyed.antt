@@ -1,7 +1,7 @@
 -- The keys of all physical files are by their fields, which lie one behind another. (DDS for Physical and Logical Files, key field level.)
 use Rattle.std.specs.Prelude.{◌≡◌, ℕ, Some, List}
-use Rattle.dds_physical.specs.declared.physical_files.PhysicalSpec.{PhysicalSpec}
-use Rattle.logical_model.specs.Bases.{FileSpec, PhysicalFile}
+use Rattle.library_steps.below.dds_physical.specs.declared.physical_files.PhysicalSpec.{PhysicalSpec}
+use Rattle.library_steps.specs.Bases.{FileSpec, PhysicalFile}
 use Rattle.file_catalogue.specs.KeyedFiles.{IsKeyed}
 use Rattle.library_model.specs.Named.{Named, named}
 use Rattle.library_steps.specs.State.{FileState}

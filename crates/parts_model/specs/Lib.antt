@@ -19,8 +19,8 @@ pub mod Filled
 pub mod Rows
 pub mod Deposits
 pub mod Sizes
-pub use Rattle.file_cursor.specs.CursorPosition
-pub use Rattle.file_cursor.specs.Reading
+pub use Rattle.job_table.specs.CursorPosition
+pub use Rattle.job_table.specs.Reading
 pub use Rattle.given_changes.specs.GivenChanges
 pub use Rattle.join_records.specs.Numbers
 pub use Rattle.join_records.specs.Shown
@@ -38,3 +38,13 @@ pub use Rattle.path_set.specs.Repeated
 pub use Rattle.path_set.specs.Sharing
 pub use Rattle.view_records.specs.KeyedViews
 pub use Rattle.view_records.specs.Steps
+pub use Rattle.file_catalogue.specs.Bodies
+pub use Rattle.file_catalogue.specs.Described
+pub use Rattle.file_catalogue.specs.Views
+pub use Rattle.job_table.specs.Changes
+pub use Rattle.job_table.specs.OpenChanges
+pub use Rattle.job_table.specs.Opens
+pub use Rattle.job_table.specs.RowReads
+pub use Rattle.job_table.specs.RowStand
+pub use Rattle.job_table.specs.Table
+pub use Rattle.job_table.specs.Users

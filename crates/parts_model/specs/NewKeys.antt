@@ -5,9 +5,9 @@ use Rattle.std.specs.List.{AllByRecursion, filter_map}
 use Rattle.file_model.specs.KeyOrder.{KeyValue}
 use Rattle.file_model.specs.Paths.{clash, path_key}
 use Rattle.file_model.specs.Views.{view_of}
-use Rattle.key_order.specs.KeyBytes.{encoded}
+use Rattle.access_path.specs.KeyBytes.{encoded}
 use Rattle.file_model.specs.declared.paths.PathFormat.{PathFormat}
-use Rattle.key_order.specs.KeyFields.{AreBytes}
+use Rattle.access_path.specs.KeyFields.{AreBytes}
 use Rattle.member_slots.specs.Member.{slot_at}
 use Rattle.member_slots.specs.Members.{item_at, member_of}
 use Rattle.member_slots.specs.declared.slot.Slot.{Slot}

@@ -3,15 +3,15 @@ use Rattle.std.specs.Prelude.{◌≡◌, ℕ, ◌≤◌, ◌⊎◌, nat_lt, fals
 use Rattle.std.specs.List.{AllByRecursion, AllZip, find}
 use Rattle.std.specs.Option.{option_map}
 use Rattle.member_slots.specs.Members.{NumberedMembers}
-use Rattle.dds_physical.specs.declared.physical_files.PhysicalSpec.{PhysicalSpec}
+use Rattle.library_steps.below.dds_physical.specs.declared.physical_files.PhysicalSpec.{PhysicalSpec}
 use Rattle.file_model.specs.declared.paths.PathSpec.{PathSpec}
 use Rattle.file_model.specs.FilePaths.{physical_path}
-use Rattle.logical_model.specs.Bases.{FileSpec, PhysicalFile, LogicalFile}
+use Rattle.library_steps.specs.Bases.{FileSpec, PhysicalFile, LogicalFile}
 use Rattle.path_set.specs.declared.moves.PathMove.{PathMove}
 use Rattle.path_set.specs.KeptPaths.{AreShared, KeptPaths, NumberedPaths, spare_of}
 use Rattle.path_set.specs.MemberSteps.{is_over}
 use Rattle.path_set.specs.Sharing.{IsShared, IsPut, detached}
-use Rattle.logical_model.specs.FilePaths.{logical_paths}
+use Rattle.library_steps.specs.FilePaths.{logical_paths}
 use Rattle.library_paths.specs.AllPaths.{AreKeptFor}
 use Rattle.job_table.specs.Opens.{OpenOrder}
 use Rattle.library_model.specs.Named.{Named, named}

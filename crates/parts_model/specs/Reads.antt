@@ -8,11 +8,11 @@ use Rattle.file_model.specs.Paths.{PathEntry, path}
 use Rattle.file_model.specs.Positions.{Bound, KeyBound, NumberBound, Position, Start, End, Reading, arrival_reading, path_reading}
 use Rattle.member_slots.specs.Member.{MemberState}
 use Rattle.member_slots.specs.Members.{NumberedMembers, member_at}
-use Rattle.key_order.specs.GivenValues.{key_fault}
+use Rattle.access_path.specs.GivenValues.{key_fault}
 use Rattle.key_pages.specs.EntryList.{EntryList}
-use Rattle.key_values.specs.KeyValues.{values_in}
-use Rattle.file_cursor.specs.Reading.{AreNumbered}
-use Rattle.logical_model.specs.Bases.{Bases}
+use Rattle.open_position.specs.KeyValues.{values_in}
+use Rattle.job_table.specs.Reading.{AreNumbered}
+use Rattle.library_steps.specs.Bases.{Bases}
 use Rattle.open_position.specs.OpenStand.{AreGivenBytes, HasNoKey}
 use Rattle.open_position.specs.Reads.{IsAskedOf, IsPathOver, asked_of, side_of}
 use Rattle.open_position.specs.declared.position.Side.{Side}

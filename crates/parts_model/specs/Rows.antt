@@ -13,7 +13,7 @@ use Rattle.job_table.specs.Kept.{IsKeyOf}
 use Rattle.job_table.specs.RowReads.{AreNumbers, asked_of, matches_by}
 use Rattle.join_records.specs.Shown.{IsShownBy}
 use Rattle.join_records.specs.Numbers.{image_at, matched_number}
-use Rattle.key_order.specs.KeyFields.{key_width}
+use Rattle.access_path.specs.KeyFields.{key_width}
 use Rattle.job_table.specs.Opens.{KeptOpen}
 use Rattle.key_spec.specs.declared.KeyPart.{KeyPart}
 use Rattle.library_model.specs.Named.{Named, named}
@@ -21,9 +21,9 @@ use Rattle.library_steps.specs.LogicalFiles.{bases_in, bases_of}
 use Rattle.library_steps.specs.Refusals.{OpenedFile, opened_file}
 use Rattle.library_steps.specs.State.{FileState, Memory, OpenState, memory_of}
 use Rattle.library_paths.specs.Mapped.{HoldDefaults}
-use Rattle.logical_model.specs.Bases.{Bases, LogicalFile}
-use Rattle.logical_model.specs.FilePaths.{join_of}
-use Rattle.logical_model.specs.Readings.{rows_reading}
+use Rattle.library_steps.specs.Bases.{Bases, LogicalFile}
+use Rattle.library_steps.specs.FilePaths.{join_of}
+use Rattle.library_steps.specs.Readings.{rows_reading}
 use Rattle.member_slots.specs.Members.{NumberedMembers, member_of}
 use Rattle.open_position.specs.OpenStand.{entry_by}
 use Rattle.open_position.specs.declared.reads.ReadBy.{ReadBy}

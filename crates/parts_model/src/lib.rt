@@ -10,9 +10,11 @@ pub mod rows;
 pub mod stop;
 
 pub use boundaries::Origin;
-pub use file_cursor;
+pub use file_catalogue;
 pub use finds::{MemberFound, OpenFound};
 pub use given_changes;
+pub use job_table;
+pub use job_table::file_cursor;
 pub use join_records;
 pub use keys::{Reservation, Test};
 pub use memory_journal;

@@ -4,3 +4,6 @@ pub mod Plans
 pub mod Places
 pub mod Changes
 pub mod Locks
+pub use Rattle.joint_state.specs.Cycles
+pub use Rattle.joint_state.specs.Sound
+pub use Rattle.joint_state.specs.Views

@@ -44,7 +44,7 @@ use Rattle.lawful_states.proofs.FindLemmas.{found-is}
 use Rattle.joint_state.specs.Sound.{IsSound, after}
 use Rattle.restart_laws.proofs.ResultLemmas.{bind-ok, does-each, not-refused, ok-equal}
 use Rattle.sound_histories.proofs.ImageLemmas.{among-map, status_in-push}
-use Rattle.restart_model.specs.Sources.{fields_beside}
+use Rattle.named_bases.specs.Sources.{fields_beside}
 use Rattle.replayed_histories.specs.Shown.{ShownFile, ShownMember, ShowsMembers, file_shown, held_shown, is_held_in, kind_in, memberless, status_shown}
 use Rattle.replayed_histories.specs.Replayed.{IsHeldWithin, IsReplayed, MemberStands, StandsAs}
 use Rattle.replayed_histories.specs.Deposits.{MayBeDeposited}

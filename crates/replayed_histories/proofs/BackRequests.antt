@@ -55,8 +55,8 @@ use Rattle.library_steps.specs.EndJob.{definition_entries, end_change, end_draft
 use Rattle.joint_state.specs.Agreed.{StaysJournaled, is_journaled}
 use Rattle.joint_state.specs.Cycles.{StandAsMade}
 use Rattle.joint_state.specs.Sound.{IsSound, after}
-use Rattle.restart_model.specs.Libraries.{journal_with}
-use Rattle.restart_model.specs.Sources.{descriptions}
+use Rattle.named_bases.specs.Libraries.{journal_with}
+use Rattle.named_bases.specs.Sources.{descriptions}
 use Rattle.replayed_histories.specs.Replayed.{BeganBefore, CyclesStand, HasItsChanges, IsHeldWithin, IsReplayed, StandsAs, changes_in}
 use Rattle.replayed_histories.specs.Deposits.{MayBeDeposited, moved_on}
 use Rattle.replayed_histories.proofs.CommitRequests.{cycle_gone}

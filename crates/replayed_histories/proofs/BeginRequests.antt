@@ -39,7 +39,7 @@ use Rattle.library_steps.specs.Uses.{user_of}
 use Rattle.joint_state.specs.Agreed.{is_journaled}
 use Rattle.joint_state.specs.Limits.{AreWithin, IsWithin}
 use Rattle.joint_state.specs.Sound.{IsSound, after}
-use Rattle.restart_model.specs.Sources.{descriptions}
+use Rattle.named_bases.specs.Sources.{descriptions}
 use Rattle.replayed_histories.specs.Shown.{ShownMember, held_shown, status_shown}
 use Rattle.replayed_histories.specs.Replayed.{CyclesStand, IsHeldWithin, IsReplayed, MemberStands, StandsAs}
 use Rattle.replayed_histories.specs.Deposits.{MayBeDeposited}

@@ -31,7 +31,7 @@ use Rattle.joint_state.specs.Sound.{IsSound, after}
 use Rattle.restart_laws.proofs.LibraryKeptCatalogueLemmas.{cleared-stands, reorganized-stands}
 use Rattle.restart_laws.proofs.ResultLemmas.{does-each}
 use Rattle.restart_laws.proofs.LibraryKeptStandLemmas.{Stands, Stands-memory_of}
-use Rattle.restart_model.specs.Sources.{descriptions}
+use Rattle.named_bases.specs.Sources.{descriptions}
 use Rattle.replayed_histories.specs.Replayed.{CyclesStand, IsHeldWithin, IsReplayed, MemberStands, StandsAs}
 use Rattle.replayed_histories.specs.Deposits.{MayBeDeposited}
 use Rattle.replayed_histories.specs.Requests.{AreReplaysKeptBy}

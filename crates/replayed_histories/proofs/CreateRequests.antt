@@ -33,7 +33,7 @@ use Rattle.library_steps.specs.Uses.{changer_of_any, unused}
 use Rattle.library_steps.specs.Refusals.{named_or_refused, refuse_if, refuse_with, sequences_left}
 use Rattle.joint_state.specs.Sound.{IsSound, after}
 use Rattle.restart_laws.proofs.ResultLemmas.{bind-ok, does-each, not-refused, ok-equal}
-use Rattle.restart_model.specs.Sources.{described_files, descriptions, fields_beside, if_logical, spec_beside, spec_named}
+use Rattle.named_bases.specs.Sources.{described_files, descriptions, fields_beside, if_logical, spec_beside, spec_named}
 use Rattle.replayed_histories.specs.Shown.{ShownFile, ShowsMembers, catalog_shown, file_shown, held_shown, kind_in, memberless}
 use Rattle.replayed_histories.specs.Replayed.{IsHeldWithin, IsReplayed, MemberStands, StandsAs}
 use Rattle.replayed_histories.specs.Deposits.{MayBeDeposited}

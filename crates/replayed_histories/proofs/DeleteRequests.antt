@@ -36,7 +36,7 @@ use Rattle.joint_state.specs.Sound.{IsSound, after}
 use Rattle.restart_laws.proofs.RequestLemmas.{delete-file}
 use Rattle.restart_laws.proofs.ResultLemmas.{does-each}
 use Rattle.sound_histories.proofs.ImageLemmas.{among-without}
-use Rattle.restart_model.specs.Sources.{described_files, descriptions, fields_beside, spec_named}
+use Rattle.named_bases.specs.Sources.{described_files, descriptions, fields_beside, spec_named}
 use Rattle.restart_laws.proofs.CatalogueLemmas.{AreNamesApart, IsCatalogue, empty-is, entries-are}
 use Rattle.restart_laws.proofs.StableLemmas.{ArePlain, IsPlain, all-free, plain-less, spec-less}
 use Rattle.replayed_histories.specs.Shown.{ShownFile, ShowsMembers, catalog_shown, file_shown, held_shown, is_held_in, kind_in, memberless}

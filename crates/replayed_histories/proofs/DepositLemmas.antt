@@ -20,8 +20,8 @@ use Rattle.library_model.specs.declared.replies.Reply.{Reply}
 use Rattle.library_steps.specs.State.{State, Memory}
 use Rattle.library_steps.specs.Change.{journaled}
 use Rattle.joint_state.specs.Sound.{after}
-use Rattle.restart_model.specs.Sources.{descriptions}
-use Rattle.restart_model.specs.Libraries.{journal_with}
+use Rattle.named_bases.specs.Sources.{descriptions}
+use Rattle.named_bases.specs.Libraries.{journal_with}
 use Rattle.journaled_entries.specs.Deposited.{IsJournaledThen}
 use Rattle.journaled_entries.proofs.DepositedLemmas.{journaled-append}
 use Rattle.replayed_histories.proofs.ListLemmas.{all-append, drop-none}

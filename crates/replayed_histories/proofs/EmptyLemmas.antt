@@ -9,8 +9,8 @@ use Rattle.journal_replay.proofs.EmptyLemmas.{empty-left}
 use Rattle.journal_replay.proofs.SoFarLemmas.{journal-whole}
 use Rattle.journal_replay.proofs.WholeLemmas.{none-whole}
 use Rattle.library_steps.specs.State.{State, begun, empty_library, new_job}
-use Rattle.restart_model.specs.Sources.{descriptions}
-use Rattle.restart_model.specs.Libraries.{journal_with}
+use Rattle.named_bases.specs.Sources.{descriptions}
+use Rattle.named_bases.specs.Libraries.{journal_with}
 use Rattle.replayed_histories.specs.Shown.{AreDifferent, cycle_numbers}
 use Rattle.replayed_histories.specs.Replayed.{HasItsChanges, IsReplayed}
 

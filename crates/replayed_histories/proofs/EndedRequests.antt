@@ -26,7 +26,7 @@ use Rattle.library_steps.specs.Journaling.{end_change, no_longer_journaled}
 use Rattle.library_steps.specs.SlotChange.{status_among}
 use Rattle.library_steps.specs.Uses.{user_of}
 use Rattle.joint_state.specs.Sound.{after}
-use Rattle.restart_model.specs.Sources.{fields_beside}
+use Rattle.named_bases.specs.Sources.{fields_beside}
 use Rattle.replayed_histories.specs.Shown.{ShownMember, ShowsMembers, held_shown, kind_in, status_shown}
 use Rattle.replayed_histories.specs.Replayed.{CyclesStand, IsHeldWithin, IsReplayed, MemberStands, StandsAs}
 use Rattle.replayed_histories.specs.Deposits.{MayBeDeposited}

@@ -27,7 +27,7 @@ use Rattle.journal_replay.specs.Standing.{HeldMember, Standing, catalog_member, 
 use Rattle.library_model.specs.Named.{Named}
 use Rattle.library_steps.specs.State.{FileState}
 use Rattle.joint_state.specs.Agreed.{is_journaled}
-use Rattle.restart_model.specs.Sources.{descriptions}
+use Rattle.named_bases.specs.Sources.{descriptions}
 use Rattle.replayed_histories.specs.Replayed.{IsHeldWithin, MemberStands}
 use Rattle.replayed_histories.specs.Deposits.{MayBeDeposited}
 use Rattle.replayed_histories.proofs.EndedRequests.{counted-there, each-counted}

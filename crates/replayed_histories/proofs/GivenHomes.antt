@@ -18,7 +18,7 @@ use Rattle.lawful_states.specs.Lawful.{HoldsValues, IsBased, IsLibrary}
 use Rattle.lawful_states.proofs.MemberLemmas.{HasRecords-member_of}
 use Rattle.library_steps.specs.State.{FileState, MemberStatus, State, fields_of}
 use Rattle.logical_model.specs.Bases.{FileSpec, PhysicalFile, LogicalFile}
-use Rattle.restart_model.specs.Sources.{fields_beside}
+use Rattle.named_bases.specs.Sources.{fields_beside}
 use Rattle.replayed_histories.specs.Shown.{ShownFile, ShownMember, ShowsMembers, catalog_shown, file_shown, held_shown, is_held_in, kind_in, status_shown}
 use Rattle.replayed_histories.specs.Replayed.{IsReplayed, MemberStands}
 use Rattle.replayed_histories.proofs.GivenMembers.{HeldStand, HoldsRecords, Suits, all-two, file_fields}

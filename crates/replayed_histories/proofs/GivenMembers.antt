@@ -31,7 +31,7 @@ use Rattle.lawful_states.specs.Lawful.{HoldsValues}
 use Rattle.lawful_states.proofs.MemberLemmas.{member_of-with}
 use Rattle.library_steps.specs.State.{FileState, JobState, MemberStatus, fields_of}
 use Rattle.joint_state.specs.Agreed.{is_journaled}
-use Rattle.restart_model.specs.Sources.{descriptions, described_files, fields_beside}
+use Rattle.named_bases.specs.Sources.{descriptions, described_files, fields_beside}
 use Rattle.replayed_histories.specs.Shown.{ShownMember, ShowsMembers, catalog_shown, file_shown, held_shown, is_held_in, kind_in, memberless}
 use Rattle.replayed_histories.specs.Replayed.{CyclesStand, IsHeldWithin, MemberStands, StandsAs}
 use Rattle.replayed_histories.proofs.GivenEntries.{by_act}

@@ -21,7 +21,7 @@ use Rattle.library_model.specs.Named.{Named, named, same_name}
 use Rattle.library_steps.specs.CreatePhysicalFile.{described_by}
 use Rattle.library_steps.specs.State.{FileState, MemberStatus, State, fields_of}
 use Rattle.library_steps.specs.SlotChange.{status_among, status_in}
-use Rattle.restart_model.specs.Sources.{described_files, descriptions, fields_beside, fields_if, format_named, if_physical, spec_beside, spec_named, with_described}
+use Rattle.named_bases.specs.Sources.{described_files, descriptions, fields_beside, fields_if, format_named, if_physical, spec_beside, spec_named, with_described}
 use Rattle.restart_laws.proofs.CatalogueLemmas.{IsCatalogue, empty-is, entry-is}
 use Rattle.restart_laws.proofs.GoesLemmas.{IsPlainCatalogue, entry-plain}
 use Rattle.restart_laws.proofs.StableLemmas.{ArePlain, IsPlain, described-more, plain-more, spec-more}

@@ -32,7 +32,7 @@ use Rattle.joint_state.specs.Limits.{AreWithin, IsWithin}
 use Rattle.restart_laws.proofs.FieldLemmas.{FitsSlot-held}
 use Rattle.restart_laws.proofs.PlanLemmas.{named-each}
 use Rattle.restart_laws.proofs.LibraryKeptStandLemmas.{within-of}
-use Rattle.restart_model.specs.Sources.{descriptions, fields_beside}
+use Rattle.named_bases.specs.Sources.{descriptions, fields_beside}
 use Rattle.replayed_histories.specs.Shown.{ShownFile, ShownMember, ShowsMembers, catalog_shown, file_shown, held_shown, is_held_in, kind_in, status_shown}
 use Rattle.replayed_histories.specs.Replayed.{IsHeldWithin, MemberStands, StandsAs}
 

@@ -24,7 +24,7 @@ use Rattle.library_steps.specs.DeleteFile.{depends_by, file_refers, first_depend
 use Rattle.library_steps.specs.State.{FileState, State, physical_in}
 use Rattle.named_bases.proofs.NamedLemmas.{names-each, source-named}
 use Rattle.named_bases.proofs.ReferLemmas.{refers-named}
-use Rattle.restart_model.specs.Sources.{described_behind, described_files, descriptions, format_named, if_logical, if_physical, names_by, names_if, spec_beside, spec_named, with_described}
+use Rattle.named_bases.specs.Sources.{described_behind, described_files, descriptions, format_named, if_logical, if_physical, names_by, names_if, spec_beside, spec_named, with_described}
 use Rattle.restart_laws.proofs.DescribedLemmas.{IsBy, IsLogicalBy, IsPhysicalBy, described_state, kind-by}
 use Rattle.restart_laws.proofs.ReferenceLemmas.{NamesOnly, physical-stays}
 use Rattle.restart_laws.proofs.StableLemmas.{NotGone, all-free}

@@ -17,7 +17,7 @@ use Rattle.library_model.specs.Named.{Named, named}
 use Rattle.lawful_states.proofs.MemberLemmas.{member_of-with}
 use Rattle.library_steps.specs.State.{FileState, JobState, MemberStatus, fields_of}
 use Rattle.library_steps.specs.SlotChange.{status_among}
-use Rattle.restart_model.specs.Sources.{described_files, fields_beside}
+use Rattle.named_bases.specs.Sources.{described_files, fields_beside}
 use Rattle.replayed_histories.specs.Shown.{ShownMember, ShowsMembers, catalog_shown, held_shown, kind_in, status_shown}
 use Rattle.replayed_histories.specs.Replayed.{CyclesStand, MemberStands, StandsAs}
 use Rattle.replayed_histories.proofs.EndedRequests.{fields-changed}

@@ -19,7 +19,7 @@ use Rattle.journal_model.specs.Replayable.{IsOpen, MayFollow}
 use Rattle.journal_model.specs.Rollback.{undos_by}
 use Rattle.journal_replay.specs.Standing.{HeldMember, Standing, catalogue_in, files_by, left_by, made_by, member_by, members_by, next_after, only_begun, standing_after, state_in}
 use Rattle.library_steps.specs.Drafts.{Author}
-use Rattle.restart_model.specs.Sources.{descriptions}
+use Rattle.named_bases.specs.Sources.{descriptions}
 use Rattle.journaled_entries.specs.Deposited.{IsJournaledThen}
 use Rattle.replayed_histories.specs.Replayed.{IsHeldWithin}
 use Rattle.replayed_histories.specs.Deposits.{MayBeDeposited}

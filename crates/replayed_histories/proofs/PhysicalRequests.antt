@@ -39,7 +39,7 @@ use Rattle.library_steps.specs.SlotChange.{status_among}
 use Rattle.lawful_states.proofs.FileLemmas.{next-unowned}
 use Rattle.joint_state.specs.Sound.{IsSound, after}
 use Rattle.restart_laws.proofs.ResultLemmas.{bind-ok, does-each, not-refused, ok-equal}
-use Rattle.restart_model.specs.Sources.{described_files, descriptions, fields_beside, format_named, if_physical, spec_beside, spec_named}
+use Rattle.named_bases.specs.Sources.{described_files, descriptions, fields_beside, format_named, if_physical, spec_beside, spec_named}
 use Rattle.restart_laws.proofs.StableLemmas.{IsPlain, plain-more}
 use Rattle.replayed_histories.specs.Shown.{ShowsMembers, held_shown, is_held_in, kind_in, memberless}
 use Rattle.replayed_histories.specs.Replayed.{IsHeldWithin, IsReplayed, MemberStands, StandsAs}

@@ -45,7 +45,7 @@ use Rattle.library_steps.specs.Uses.{user_of}
 use Rattle.joint_state.specs.Agreed.{is_journaled}
 use Rattle.joint_state.specs.Sound.{IsSound, after}
 use Rattle.lawful_states.specs.Owners.{Owns}
-use Rattle.restart_model.specs.Sources.{descriptions}
+use Rattle.named_bases.specs.Sources.{descriptions}
 use Rattle.replayed_histories.specs.Replayed.{BeganBefore, CyclesStand, IsHeldWithin, IsOfOneOf, IsReplayed, StandsAs}
 use Rattle.replayed_histories.specs.Deposits.{MayBeDeposited}
 use Rattle.replayed_histories.proofs.BackRequests.{cycles-raised, in-own}

@@ -24,7 +24,7 @@ use Rattle.journal_model.specs.Replayable.{AgreesBefore, IsOpen}
 use Rattle.journal_model.specs.Rollback.{MemberChange, noted_of, of_member}
 use Rattle.journal_replay.specs.Standing.{HeldMember, Standing, catalog_member, catalogue_in, member_by, members_by, only_begun, slots_at, standing_after}
 use Rattle.library_steps.specs.Drafts.{Author, cycle_draft, slot_drafts}
-use Rattle.restart_model.specs.Sources.{descriptions}
+use Rattle.named_bases.specs.Sources.{descriptions}
 use Rattle.replayed_histories.specs.Replayed.{IsHeldWithin}
 use Rattle.replayed_histories.specs.Deposits.{DraftsLeave, MayBeDeposited}
 use Rattle.replayed_histories.proofs.OneLemmas.{IsOfOne, added-one, after-one, before-one, deleted-one, moved_by, one-after, one-may, one_draft, one_entry, one_left, put-one}

@@ -37,7 +37,7 @@ use Rattle.restart_laws.proofs.LibraryKeptStandLemmas.{Stands, Stands-memory_of,
 use Rattle.sound_histories.proofs.JobLemmas.{IsAsking, job_changed-none, job_changed-twice}
 use Rattle.sound_histories.proofs.PlaceLemmas.{IsPlaceFor, slot_of-get}
 use Rattle.sound_histories.proofs.PutLemmas.{MayPut, put_cycle}
-use Rattle.restart_model.specs.Sources.{descriptions}
+use Rattle.named_bases.specs.Sources.{descriptions}
 use Rattle.replayed_histories.specs.Replayed.{BeganBefore, CyclesStand, IsHeldWithin, IsReplayed, MemberStands, StandsAs}
 use Rattle.replayed_histories.specs.Deposits.{DraftsLeave}
 use Rattle.replayed_histories.proofs.AloneLemmas.{alone-there}

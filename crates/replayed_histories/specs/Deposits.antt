@@ -6,7 +6,7 @@ use Rattle.entry_codec.specs.declared.entries.Draft.{Draft}
 use Rattle.entry_codec.specs.Drafts.{numbered}
 use Rattle.entry_codec.specs.Placing.{is_placed}
 use Rattle.journal_replay.specs.Standing.{Standing, catalogue_in, standing_after, MayStandNext}
-use Rattle.restart_model.specs.Sources.{descriptions}
+use Rattle.named_bases.specs.Sources.{descriptions}
 use Rattle.journaled_entries.specs.Deposited.{IsJournaledThen}
 use Rattle.replayed_histories.specs.Replayed.{IsHeldWithin}
 

@@ -20,8 +20,8 @@ use Rattle.library_steps.specs.State.{State, FileState, JobState, MemberStatus, 
 use Rattle.library_steps.specs.Change.{Change}
 use Rattle.library_steps.specs.SlotChange.{status_among}
 use Rattle.joint_state.specs.Sound.{Does, after}
-use Rattle.restart_model.specs.Sources.{descriptions, described_files, fields_beside}
-use Rattle.restart_model.specs.Libraries.{journal_with}
+use Rattle.named_bases.specs.Sources.{descriptions, described_files, fields_beside}
+use Rattle.named_bases.specs.Libraries.{journal_with}
 use Rattle.journaled_entries.specs.Deposited.{AreDeposited}
 use Rattle.replayed_histories.specs.Shown.{catalog_shown, file_shown, memberless, ShowsMembers, cycle_numbers, kind_in, AreDifferent, IsRising}
 

@@ -19,8 +19,8 @@ ghost use Rattle.library_steps.specs.Journaling.{end_change};
 ghost use Rattle.library_steps.specs.SlotChange.{status_among};
 ghost use Rattle.library_steps.specs.Uses.{user_of};
 ghost use Rattle.journaled_entries.specs.Deposited.{AreDeposited};
-ghost use Rattle.restart_model.specs.Libraries.{journal_with};
-ghost use Rattle.restart_model.specs.Sources.{descriptions};
+ghost use Rattle.named_bases.specs.Libraries.{journal_with};
+ghost use Rattle.named_bases.specs.Sources.{descriptions};
 ghost use Rattle.replayed_histories.specs.Replayed.{AreReplaysKeptByThese, IsReplayed};
 
 /// A journal that leaves its library can be replayed, and holds only what libraries deposit.

@@ -16,9 +16,9 @@ use Rattle.logical_model.specs.Bases.{FileSpec, PhysicalFile, LogicalFile}
 use Rattle.journal_model.specs.Catalogue.{CatalogFile, is_named}
 use Rattle.lawful_states.proofs.NameLemmas.{named-append, same_name-self, same_name-symm, some-equal}
 use Rattle.library_model.specs.Named.{Named, named, same_name}
-use Rattle.library_steps.specs.CreateLogicalFile.{logical_by}
-use Rattle.library_steps.specs.CreatePhysicalFile.{described_by}
-use Rattle.library_steps.specs.State.{FileState}
+use Rattle.lawful_states.specs.CreateLogicalFile.{logical_by}
+use Rattle.lawful_states.specs.CreatePhysicalFile.{described_by}
+use Rattle.lawful_states.specs.State.{FileState}
 use Rattle.lawful_states.proofs.BaseLemmas.{named-before}
 use Rattle.restart_model.specs.Sources.{described_behind, format_named, if_logical, if_physical, spec_beside, spec_named, with_described}
 use Rattle.restart_laws.proofs.CatalogueLemmas.{AreNamesApart, Differs}

@@ -19,7 +19,7 @@ use Rattle.logical_laws.proofs.ListLemmas.{each-weaker}
 use Rattle.journal_model.specs.Catalogue.{Catalogue, CatalogFile, CatalogMember, MayAddMember, MayCreate, MayDelete, MayEnterBy, catalogue_by, has_number, is_in_file, is_named, member_numbered}
 use Rattle.journal_model.specs.Images.{AreRecords, AreRecordsOf, HasRecords, images_of}
 use Rattle.lawful_states.proofs.NameLemmas.{same_name-equal, same_name-symm, some-equal}
-use Rattle.library_steps.specs.CreatePhysicalFile.{described_by}
+use Rattle.lawful_states.specs.CreatePhysicalFile.{described_by}
 use Rattle.library_kept.specs.Told.{IsRecordOf}
 use Rattle.restart_model.specs.Sources.{described_files, descriptions, fields_beside, fields_if, format_named, if_physical, spec_named}
 use Rattle.restart_laws.proofs.CatalogueLemmas.{AreNumbersApart, HasOther, HasPhysical, IsCatalogue, set_images}

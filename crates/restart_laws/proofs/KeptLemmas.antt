@@ -12,8 +12,8 @@ use Rattle.lawful_states.proofs.NameLemmas.{same_name-self, some-equal}
 use Rattle.lawful_states.proofs.OwnerLemmas.{status-unowned}
 use Rattle.lawful_states.proofs.StatusLemmas.{has_number-cons}
 use Rattle.library_model.specs.Named.{Named}
-use Rattle.library_steps.specs.SlotChange.{status_among, status_in}
-use Rattle.library_steps.specs.State.{FileState, MemberStatus}
+use Rattle.lawful_states.specs.SlotChange.{status_among, status_in}
+use Rattle.lawful_states.specs.State.{FileState, MemberStatus}
 use Rattle.restart_model.specs.Libraries.{file_left, member_left, status_left}
 use Rattle.restart_laws.proofs.CatalogueLemmas.{AreNumbersApart, HasOther}
 use Rattle.restart_laws.proofs.LeftLemmas.{members_left, none-numbered}

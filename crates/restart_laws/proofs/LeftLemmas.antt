@@ -23,8 +23,8 @@ use Rattle.lawful_states.proofs.ChangeLemmas.{changed-from}
 use Rattle.lawful_states.proofs.NameLemmas.{same_name-equal, some-equal}
 use Rattle.lawful_states.proofs.StatusLemmas.{has_number-cons}
 use Rattle.library_model.specs.Named.{Named, named, same_name}
-use Rattle.library_steps.specs.LogicalFiles.{base_in, bases_in}
-use Rattle.library_steps.specs.State.{FileState, MemberStatus, format_in, physical_among, physical_in}
+use Rattle.lawful_states.specs.LogicalFiles.{base_in, bases_in}
+use Rattle.lawful_states.specs.State.{FileState, MemberStatus, format_in, physical_among, physical_in}
 use Rattle.lawful_states.specs.Lawful.{AreBased, IsBased}
 use Rattle.lawful_states.proofs.BaseLemmas.{physical-here, some-is, some-of}
 use Rattle.library_kept.specs.Limits.{AreFormats}

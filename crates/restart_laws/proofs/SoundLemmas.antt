@@ -40,10 +40,10 @@ use Rattle.lawful_states.specs.Owners.{Owns}
 use Rattle.lawful_states.specs.Physical.{IsPhysical}
 use Rattle.lawful_states.proofs.NameLemmas.{some-equal}
 use Rattle.library_model.specs.Named.{Named, named}
-use Rattle.library_steps.specs.declared.limits.TheConstants.{MOST_LIBRARY_BYTES}
-use Rattle.library_steps.specs.Ranges.{library_bytes}
-use Rattle.library_steps.specs.SlotChange.{images_of as images_kept}
-use Rattle.library_steps.specs.State.{State, FileState, fields_of, format_in, memory_of, physical_in}
+use Rattle.lawful_states.below.library_steps.specs.declared.limits.TheConstants.{MOST_LIBRARY_BYTES}
+use Rattle.lawful_states.specs.Ranges.{library_bytes}
+use Rattle.lawful_states.specs.SlotChange.{images_of as images_kept}
+use Rattle.lawful_states.specs.State.{State, FileState, fields_of, format_in, memory_of, physical_in}
 use Rattle.lawful_states.specs.Lawful.{HoldsValues, IsThere}
 use Rattle.library_kept.specs.Limits.{AreWithin, IsWithin}
 use Rattle.library_kept.specs.Sound.{IsSound}

@@ -20,9 +20,9 @@ use Rattle.logical_laws.proofs.ListLemmas.{each-append, each-weaker}
 use Rattle.journal_model.specs.Catalogue.{CatalogFile, depends_on, is_named}
 use Rattle.lawful_states.proofs.NameLemmas.{same_name-equal, same_name-self, same_name-symm}
 use Rattle.library_model.specs.Named.{Named, named, same_name}
-use Rattle.library_steps.specs.CreateLogicalFile.{logical_by}
-use Rattle.library_steps.specs.CreatePhysicalFile.{described_by}
-use Rattle.library_steps.specs.State.{FileState, physical_in}
+use Rattle.lawful_states.specs.CreateLogicalFile.{logical_by}
+use Rattle.lawful_states.specs.CreatePhysicalFile.{described_by}
+use Rattle.lawful_states.specs.State.{FileState, physical_in}
 use Rattle.lawful_states.proofs.BaseLemmas.{named-before, some-of}
 use Rattle.restart_model.specs.Sources.{described_behind, described_files, descriptions, file_of_line, format_named, if_logical, if_physical, names_by, names_if, spec_beside, spec_named, with_described}
 use Rattle.restart_laws.proofs.CatalogueLemmas.{AreNamesApart, Differs, none-named}

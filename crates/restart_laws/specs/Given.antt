@@ -8,7 +8,7 @@ use Rattle.dds_logical.specs.Origins.{keyword_names}
 use Rattle.lawful_states.specs.Physical.{IsPhysical}
 use Rattle.journal_model.specs.Catalogue.{CatalogFile}
 use Rattle.library_model.specs.Named.{Named, named}
-use Rattle.library_steps.specs.State.{FileState, fields_of}
+use Rattle.lawful_states.specs.State.{FileState, fields_of}
 use Rattle.restart_model.specs.Sources.{fields_beside}
 
 -- ---- what is left of a physical file

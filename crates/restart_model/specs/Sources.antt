@@ -23,7 +23,7 @@ use Rattle.dds_logical.specs.declared.views.LogicalSpec.{LogicalSpec}
 use Rattle.dds_logical.specs.FormatLines.{FormatLines, formats_in, is_join_file}
 use Rattle.dds_logical.specs.JoinViews.{files_joined}
 use Rattle.dds_logical.specs.Logical.{base_name}
-use Rattle.logical_model.specs.Bases.{FileSpec, PhysicalFile, LogicalFile}
+use Rattle.library_steps.specs.Bases.{FileSpec, PhysicalFile, LogicalFile}
 use Rattle.journal_model.specs.Catalogue.{CatalogFile, Descriptions}
 use Rattle.library_model.specs.Named.{Named, named}
 use Rattle.library_steps.specs.CreatePhysicalFile.{described}

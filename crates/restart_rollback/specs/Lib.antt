@@ -1,1 +1,2 @@
 pub mod Rollbacks
+pub use Rattle.journal_opening.specs.Journals

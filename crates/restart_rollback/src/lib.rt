@@ -5,4 +5,5 @@ mod fault;
 mod rollback;
 
 pub use fault::RestartFault;
+pub use journal_opening;
 pub use rollback::roll_back;

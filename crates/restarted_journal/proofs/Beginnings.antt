@@ -13,7 +13,7 @@ use Rattle.journal_model.specs.Pairs.{BeginsNoPair}
 use Rattle.journal_model.proofs.MemberLemmas.{acts-append}
 use Rattle.journal_model.proofs.ReplayLemmas.{replay-append}
 use Rattle.journal_replay.specs.SoFar.{EndsWhole}
-use Rattle.journal_opening.specs.Journals.{journal_with}
+use Rattle.restart_rollback.specs.Journals.{journal_with}
 use Rattle.restart_rollback.specs.Rollbacks.{rolled_back}
 use Rattle.restarted_journal.specs.Restarts.{beginning, begun_with, first_entry, restarted_entries}
 

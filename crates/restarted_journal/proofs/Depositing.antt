@@ -15,7 +15,7 @@ use Rattle.receiver_chain.specs.Receivers.{Kept}
 use Rattle.journal_book.specs.Book.{BookState, HasMoreRoom, Holds, IsHeld, Keeps, with_entry}
 use Rattle.journal_book.specs.Kept.{IsForcedOrFrom}
 use Rattle.journal_book.proofs.Deposits.{holds_same_chain}
-use Rattle.journal_opening.specs.Journals.{IsLeftBy}
+use Rattle.restart_rollback.specs.Journals.{IsLeftBy}
 use Rattle.restart_rollback.specs.Rollbacks.{IsForcedOrReplayed}
 use Rattle.restart_rollback.proofs.PutLemmas.{roomy-moments}
 use Rattle.restart_rollback.proofs.Wholes.{left-reopens, replayed-exactly}

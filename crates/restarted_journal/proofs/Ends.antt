@@ -14,7 +14,7 @@ use Rattle.journal_book.proofs.Deposits.{more_holds}
 use Rattle.journal_book.proofs.Forcing.{all_counted}
 use Rattle.journal_replay.specs.SoFar.{EndsWhole}
 use Rattle.journal_replay.specs.Standing.{Standing}
-use Rattle.journal_opening.specs.Journals.{IsLeftBy, journal_with}
+use Rattle.restart_rollback.specs.Journals.{IsLeftBy, journal_with}
 use Rattle.restart_rollback.specs.Rollbacks.{CanReopen, IsForcedOrReplayed, rollback_entries, rolled_back}
 use Rattle.restart_rollback.proofs.Wholes.{left-reopens, rolled-whole}
 use Rattle.restarted_journal.specs.Restarts.{IsEnding, begun_with, restarted_entries}

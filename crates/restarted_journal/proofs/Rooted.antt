@@ -19,8 +19,8 @@ use Rattle.journal_book.proofs.Forcing.{forced_left}
 use Rattle.journal_book.proofs.Reading.{one_list}
 use Rattle.journal_replay.specs.SoFar.{EndsWhole}
 use Rattle.journal_replay.specs.Standing.{Standing}
-use Rattle.journal_opening.specs.Journals.{IsLeftBy, SpellJournal, journal_with}
-use Rattle.journal_opening.proofs.Books.{book_spells}
+use Rattle.restart_rollback.specs.Journals.{IsLeftBy, SpellJournal, journal_with}
+use Rattle.restart_rollback.proofs.Books.{book_spells}
 use Rattle.restart_rollback.proofs.Wholes.{left-reopens}
 use Rattle.restarted_journal.specs.Restarts.{IsEnded, IsEnding, IsRestarted, IsRestarting, MayRestart}
 use Rattle.restarted_journal.proofs.Ends.{all-forced}

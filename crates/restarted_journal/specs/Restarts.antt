@@ -15,7 +15,7 @@ use Rattle.journaled_entries.specs.Deposited.{AreDeposited}
 use Rattle.receiver_chain.specs.declared.numbers.TheConstants.{FIRST_RECEIVER}
 use Rattle.journal_book.specs.Book.{BookState, Holds}
 use Rattle.journal_book.specs.Kept.{SpellEntries}
-use Rattle.journal_opening.specs.Journals.{IsLeftBy, SpellJournal, journal_with}
+use Rattle.restart_rollback.specs.Journals.{IsLeftBy, SpellJournal, journal_with}
 use Rattle.restart_rollback.specs.Rollbacks.{CanReopen}
 
 -- the kind of the entry by which the receiver behind the one of this number begins

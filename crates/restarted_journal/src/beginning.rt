@@ -14,18 +14,18 @@ ghost use Rattle.journal_limits.specs.Lengths.{KeepsLengths};
 ghost use Rattle.journal_book.specs.Book.{HasMoreRoom, Holds, last_of, next_of};
 ghost use Rattle.journal_book.specs.Kept.{IsForcedOrFrom};
 ghost use Rattle.journal_replay.specs.SoFar.{EndsWhole};
-ghost use Rattle.journal_opening.specs.Journals.{IsLeftBy, journal_with};
+ghost use Rattle.restart_rollback.specs.Journals.{IsLeftBy, journal_with};
 ghost use Rattle.restart_rollback.specs.Rollbacks.{IsForcedOrReplayed};
 ghost use Rattle.restarted_journal.specs.Restarts.{beginning, begun_with, first_entry};
 
 use entry_codec::{Draft, Entry, EntryKind, entry_length};
 use gated_log::MAX_BLOCK;
 use journal_book::Book;
-use journal_opening::take_all;
 use replay_files::Describe;
 use replay_step::Replay;
 use restart_drafts::By;
 use restart_rollback::RestartFault;
+use restart_rollback::journal_opening::take_all;
 use std::alloc::AllocError;
 use store_model::Store;
 

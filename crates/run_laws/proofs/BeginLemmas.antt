@@ -7,8 +7,8 @@ use Rattle.lock_table.specs.declared.lock.Lock.{Lock}
 use Rattle.lock_table.specs.Lock.{is_open}
 use Rattle.member_slots.specs.Members.{NumberedMembers}
 use Rattle.library_steps.specs.State.{State, FileState, JobState, Memory, begun, job_at, job_of, memory_of, new_job, or_new}
-use Rattle.lawful_states.specs.Lawful.{OpensHold, AllGoBack}
-use Rattle.lawful_states.specs.Jobs.{AreOfJobs}
+use Rattle.joint_state.specs.Lawful.{OpensHold, AllGoBack}
+use Rattle.joint_state.specs.Jobs.{AreOfJobs}
 use Rattle.joint_state.specs.Joint.{JobStands}
 use Rattle.joint_state.specs.Locks.{LockStands, HasOpenOf}
 use Rattle.joint_state.specs.Agreed.{StaysJournaled}

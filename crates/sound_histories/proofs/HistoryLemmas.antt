@@ -4,10 +4,10 @@ use Rattle.library_model.specs.declared.requests.Request.{Request}
 use Rattle.library_model.specs.declared.replies.Reply.{Reply}
 use Rattle.library_model.specs.declared.calls.Call.{Call}
 use Rattle.library_model.specs.declared.sources.NamedSource.{NamedSource}
-use Rattle.library_steps.specs.State.{State, memory_of, job_at}
-use Rattle.library_steps.specs.Change.{Change, changed}
-use Rattle.library_steps.specs.Step.{change, step, MayAnswer}
-use Rattle.library_steps.specs.History.{is_running, Outcome, Standing, Failed, Comes, Runs}
+use Rattle.cycles_kept.specs.State.{State, memory_of, job_at}
+use Rattle.cycles_kept.specs.Change.{Change, changed}
+use Rattle.cycles_kept.specs.Step.{change, step, MayAnswer}
+use Rattle.cycles_kept.specs.History.{is_running, Outcome, Standing, Failed, Comes, Runs}
 use Rattle.cycles_kept.specs.Sound.{IsSound, Does, after, IsKept}
 
 -- the state after an answer, by whether there was a refusal

@@ -2,8 +2,8 @@
 use Rattle.std.specs.Prelude.{ℕ, List}
 use Rattle.library_model.specs.declared.calls.Call.{Call}
 use Rattle.library_model.specs.declared.sources.NamedSource.{NamedSource}
-use Rattle.library_steps.specs.State.{State, begun, empty_library}
-use Rattle.library_steps.specs.History.{Runs, Standing}
+use Rattle.cycles_kept.specs.State.{State, begun, empty_library}
+use Rattle.cycles_kept.specs.History.{Runs, Standing}
 
 abbrev pub IsReached : List NamedSource → (names : List (List ℕ)) → List Call → State → Type 0
 IsReached sources names calls s = Runs sources (Standing (begun empty_library names)) calls (Standing s)

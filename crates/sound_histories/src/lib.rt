@@ -10,10 +10,10 @@ ghost use Rattle.library_model.specs.declared.requests.Request.TheVariants.{Appl
 ghost use Rattle.library_model.specs.declared.replies.Reply.TheVariants.{Range};
 ghost use Rattle.library_model.specs.declared.requests.Request.{Request};
 ghost use Rattle.library_model.specs.declared.replies.Reply.{Reply};
-ghost use Rattle.library_steps.specs.State.{State, begun, empty_library, job_at};
-ghost use Rattle.library_steps.specs.Change.{Change};
-ghost use Rattle.library_steps.specs.History.{is_running};
-ghost use Rattle.library_steps.specs.Step.{MayAnswer};
+ghost use Rattle.cycles_kept.specs.State.{State, begun, empty_library, job_at};
+ghost use Rattle.cycles_kept.specs.Change.{Change};
+ghost use Rattle.cycles_kept.specs.History.{is_running};
+ghost use Rattle.cycles_kept.specs.Step.{MayAnswer};
 ghost use Rattle.cycles_kept.specs.Sound.{IsSound, after};
 ghost use Rattle.journal_kept.specs.Ranges.{IsDone, Moves, IsAgain, to_before, to_end, again};
 ghost use Rattle.sound_histories.specs.Reached.{IsReached};

@@ -14,29 +14,29 @@ use Rattle.dds_source.specs.declared.keywords.Keyword.{Keyword}
 use Rattle.dds_source.specs.declared.specifications.Source.{Source}
 use Rattle.dds_source.specs.declared.specifications.Specification.{Specification}
 use Rattle.dds_source.specs.Faults.{first_after}
-use Rattle.dds_physical.specs.declared.physical_files.PhysicalSpec.{PhysicalSpec}
-use Rattle.dds_physical.specs.Attributes.{attributes}
-use Rattle.dds_physical.specs.Keywords.{has_name, first_named, is_there, arguments_of}
-use Rattle.dds_physical.specs.KeywordRules.{argument_name, is_in_table}
-use Rattle.dds_physical.specs.Names.{name_of, field_named}
-use Rattle.dds_physical.proofs.FaultLemmas.{nothing_noted}
+use Rattle.logical_paths.below.dds_physical.specs.declared.physical_files.PhysicalSpec.{PhysicalSpec}
+use Rattle.logical_paths.specs.Attributes.{attributes}
+use Rattle.logical_paths.specs.Keywords.{has_name, first_named, is_there, arguments_of}
+use Rattle.logical_paths.specs.KeywordRules.{argument_name, is_in_table}
+use Rattle.logical_paths.specs.Names.{name_of, field_named}
+use Rattle.logical_paths.proofs.FaultLemmas.{nothing_noted}
 use Rattle.file_model.specs.declared.views.FieldSource.{FieldSource}
 use Rattle.file_model.specs.declared.views.FieldSource.TheVariants.{Copied, Converted, Concatenated, Substring}
 use Rattle.file_model.specs.declared.views.LogicalField.{LogicalField}
-use Rattle.dds_logical.specs.declared.keyword_places.KeywordPlace.TheVariants as places
-use Rattle.dds_logical.specs.declared.views.LogicalSpec.{LogicalSpec}
-use Rattle.dds_logical.specs.declared.views.View.{View}
-use Rattle.dds_logical.specs.Fields.{is_same_type, source_at, typed_field, field_over, field_of_line, field_as_it_is, named_fields, laid_out, mapping_of, is_read_only_mapping, says_read_only}
-use Rattle.dds_logical.specs.Fields.{field_entry_faults, made_faults, file_number_faults, field_lines_faults}
-use Rattle.dds_logical.specs.FormatLines.{FormatLines, formats_in, field_lines, key_lines, is_join_file, is_multi_format}
-use Rattle.dds_logical.specs.Keys.{key_lines_faults, mismatch_faults}
-use Rattle.dds_logical.specs.KeywordArguments.{is_file_or_field, names_among, are_names, fit_logical_keyword, takes_its_arguments}
-use Rattle.dds_logical.specs.KeywordRules.{stands_at, unknown_faults, argument_faults, twice_faults, logical_keyword_faults}
-use Rattle.dds_logical.specs.Logical.{base_of, fields_named, format_fields, format_parts, most_parts, view_described, one_or_several, view_faults, join_described_by, described_by}
-use Rattle.dds_logical.specs.Logical.{formats_at_fault, faults_over, unless_fault, logical_specification, logical_faults, logical_of}
-use Rattle.dds_logical.specs.Origins.{Origin, keyword_names, origin_names, fields_of_names, lacks_one, is_character, are_characters, lies_within, if_within, part_said, whole_field}
-use Rattle.dds_logical.specs.Origins.{first_copied, concatenated, part_origin, substring_of, arguments_said, made_of, origin}
-use Rattle.dds_logical.proofs.CompleteLemmas.{nothing_in, not_wrong}
+use Rattle.logical_model.below.dds_logical.specs.declared.keyword_places.KeywordPlace.TheVariants as places
+use Rattle.logical_model.below.dds_logical.specs.declared.views.LogicalSpec.{LogicalSpec}
+use Rattle.logical_model.below.dds_logical.specs.declared.views.View.{View}
+use Rattle.logical_model.specs.Fields.{is_same_type, source_at, typed_field, field_over, field_of_line, field_as_it_is, named_fields, laid_out, mapping_of, is_read_only_mapping, says_read_only}
+use Rattle.logical_model.specs.Fields.{field_entry_faults, made_faults, file_number_faults, field_lines_faults}
+use Rattle.logical_model.specs.FormatLines.{FormatLines, formats_in, field_lines, key_lines, is_join_file, is_multi_format}
+use Rattle.logical_model.specs.Keys.{key_lines_faults, mismatch_faults}
+use Rattle.logical_model.specs.KeywordArguments.{is_file_or_field, names_among, are_names, fit_logical_keyword, takes_its_arguments}
+use Rattle.logical_model.specs.KeywordRules.{stands_at, unknown_faults, argument_faults, twice_faults, logical_keyword_faults}
+use Rattle.logical_model.specs.Logical.{base_of, fields_named, format_fields, format_parts, most_parts, view_described, one_or_several, view_faults, join_described_by, described_by}
+use Rattle.logical_model.specs.Logical.{formats_at_fault, faults_over, unless_fault, logical_specification, logical_faults, logical_of}
+use Rattle.logical_model.specs.Origins.{Origin, keyword_names, origin_names, fields_of_names, lacks_one, is_character, are_characters, lies_within, if_within, part_said, whole_field}
+use Rattle.logical_model.specs.Origins.{first_copied, concatenated, part_origin, substring_of, arguments_said, made_of, origin}
+use Rattle.logical_model.proofs.CompleteLemmas.{nothing_in, not_wrong}
 use Rattle.view_records.specs.Through.{AreFieldsOf, IsFormatOf, HasBytes, HaveBytes, HasFormats, HasBytesIn}
 
 -- ---- lists and options

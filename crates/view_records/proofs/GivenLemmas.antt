@@ -20,9 +20,9 @@ use Rattle.file_model.specs.declared.views.LogicalField.{LogicalField}
 use Rattle.file_model.specs.declared.views.Piece.{Piece}
 use Rattle.file_model.specs.Views.{pieces_length, character, stored_type, base_image}
 use Rattle.file_model.proofs.PathLemmas.{weaker}
-use Rattle.view_rules.specs.Stored.{EndsWithin, HasPlace, IsStored}
-use Rattle.dds_logical.specs.declared.views.View.{View}
-use Rattle.dds_logical.specs.declared.views.LogicalSpec.TheVariants.{Simple}
+use Rattle.logical_paths.specs.Stored.{EndsWithin, HasPlace, IsStored}
+use Rattle.logical_model.below.dds_logical.specs.declared.views.View.{View}
+use Rattle.logical_model.below.dds_logical.specs.declared.views.LogicalSpec.TheVariants.{Simple}
 use Rattle.logical_paths.specs.Found.{HoldsRecord}
 use Rattle.logical_paths.specs.Mapped.{IsTextAt, IsSourceMapped, IsFieldMapped}
 use Rattle.logical_paths.proofs.GivenLemmas.{given-makes}

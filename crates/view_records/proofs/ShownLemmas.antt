@@ -11,8 +11,8 @@ use Rattle.record_fmt.specs.Records.{both, fields_held, record_held}
 use Rattle.file_model.specs.declared.views.LogicalField.{LogicalField}
 use Rattle.file_model.specs.Views.{field_image, logical_image}
 use Rattle.file_model.proofs.PathLemmas.{weaker}
-use Rattle.view_rules.specs.Shown.{HasValue}
-use Rattle.dds_logical.specs.declared.views.View.{View}
+use Rattle.logical_paths.specs.Shown.{HasValue}
+use Rattle.logical_model.below.dds_logical.specs.declared.views.View.{View}
 use Rattle.logical_model.specs.Formats.{values_shown}
 use Rattle.logical_paths.specs.Steps.{shown_of}
 use Rattle.logical_paths.specs.KeyedViews.{IsShownOf}

@@ -6,11 +6,11 @@ ghost use Rattle.file_model.specs.Views.{base_image};
 ghost use Rattle.logical_paths.specs.Found.{HoldsRecord};
 ghost use Rattle.view_records.specs.Through.{IsFormatOf, IsWrittenThrough};
 
-use dds_logical::views::View;
 use field_types::values::Value;
+use logical_model::dds_logical::views::View;
+use logical_paths::view_rules::storing;
 use record_fmt::formats::{Format, PackFault};
 use std::alloc::Global;
-use view_rules::storing;
 
 /// The record of the base file that values make which are given through a format, over the old record where one is changed:
 /// as long as the base file's fields together, with a value in each.

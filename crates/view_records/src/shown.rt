@@ -4,11 +4,11 @@ ghost use Rattle.std.specs.List.{AllByRecursion};
 ghost use Rattle.logical_model.specs.Formats.{shown_through};
 ghost use Rattle.view_records.specs.Through.{HasValueIn, IsFormatOf, IsReadThrough, value_in};
 
-use dds_logical::views::View;
 use field_types::values::Value;
 use file_model::views::LogicalField;
+use logical_model::dds_logical::views::View;
+use logical_paths::view_rules::viewing;
 use std::alloc::{AllocError, Global};
-use view_rules::viewing;
 
 /// The values that a format shows of a record of its base file, one for each of its fields. Memory is taken for them alone.
 pub fn values_shown(alloc: Global, view: &View, image: &[u8]) -> Result<Vec<Value>, AllocError>

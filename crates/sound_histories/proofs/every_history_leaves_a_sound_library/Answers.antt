@@ -1,4 +1,4 @@
-use Rattle.library_steps.specs.State.{begun, empty_library}
+use Rattle.cycles_kept.specs.State.{begun, empty_library}
 use Rattle.sound_histories.proofs.HistoryLemmas.{runs-sound}
 use Rattle.sound_histories.proofs.every_history_leaves_a_sound_library.Goals as goal
 

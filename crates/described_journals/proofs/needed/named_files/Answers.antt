@@ -4,7 +4,7 @@ use Rattle.std.proofs.lemmas.Result.{IfOk-weaker}
 use Rattle.dds_physical.specs.Physical.{physical_of}
 use Rattle.library_model.specs.Named.{Named}
 use Rattle.library_steps.specs.State.{FileState}
-use Rattle.restart_model.specs.Sources.{described_files, format_named, if_physical}
+use Rattle.named_bases.specs.Sources.{described_files, format_named, if_physical}
 use Rattle.described_journals.specs.Files.{described_upon}
 use Rattle.described_journals.specs.Needed.{found, needed}
 use Rattle.described_journals.proofs.AgreeLemmas.{beside-needed}

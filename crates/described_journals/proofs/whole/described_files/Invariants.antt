@@ -1,5 +1,5 @@
 use Rattle.std.proofs.Common.{◌≡◌, ◌≤◌, ◌-◌, [], drop, length}
-use Rattle.restart_model.specs.Sources.{described_behind}
+use Rattle.named_bases.specs.Sources.{described_behind}
 use Rattle.described_journals.proofs.whole.described_files.Given as goal
 
 abbrev pub invariant-loop-place : goal.invariant-loop-place

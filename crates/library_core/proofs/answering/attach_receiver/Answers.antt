@@ -6,7 +6,7 @@ use Rattle.library_steps.specs.Receivers.{attach_plan}
 use Rattle.library_steps.specs.State.{State, job_at, memory_of}
 use Rattle.commitment_requests.specs.Answers.{Gives}
 use Rattle.commitment_requests.below.parts_model.specs.declared.stop.Stop.{Stop}
-use Rattle.joint_state.specs.Sound.{IsSound}
+use Rattle.record_changes.specs.Sound.{IsSound}
 use Rattle.journal_fronts.specs.Fronts.{entries_behind}
 use Rattle.kept_library.specs.Journaled.{IsJournaled}
 use Rattle.library_core.specs.Puts.{HasAnswered, HasPut}

@@ -1,6 +1,6 @@
 use Rattle.std.proofs.Common.{◌≡◌, ◌∙◌, ap}
 use Rattle.library_steps.specs.LogicalFiles.{bases_in}
-use Rattle.logical_model.specs.FilePaths.{primary_path}
+use Rattle.library_steps.specs.FilePaths.{primary_path}
 use Rattle.parts_model.specs.Steps.{own_path}
 use Rattle.parts_model.proofs.JoinedUnique.{join-none, join-some}
 use Rattle.library_parts.proofs.given.join_unique.Goals as goal

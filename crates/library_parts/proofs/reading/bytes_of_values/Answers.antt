@@ -1,6 +1,6 @@
 use Rattle.std.proofs.Common.{◌∙◌, Err, true, ap, refl}
-use Rattle.key_order.specs.GivenValues.{key_fault}
-use Rattle.key_order.specs.declared.given.KeyFault.TheVariants.{Refused}
+use Rattle.access_path.specs.GivenValues.{key_fault}
+use Rattle.access_path.below.key_order.specs.declared.given.KeyFault.TheVariants.{Refused}
 use Rattle.parts_model.specs.Reads.{refusal}
 use Rattle.parts_model.proofs.HitLemmas.{key-stands, no-fault}
 use Rattle.library_parts.proofs.reading.bytes_of_values.Goals as goal

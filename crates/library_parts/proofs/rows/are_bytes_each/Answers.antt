@@ -1,7 +1,7 @@
 use Rattle.std.proofs.Common.{◌∙◌, ap, subst}
 use Rattle.std.proofs.lemmas.List.Elements.{All-more}
 use Rattle.file_model.specs.declared.joins.Secondary.{Secondary}
-use Rattle.key_order.specs.KeyFields.{AreBytes}
+use Rattle.access_path.specs.KeyFields.{AreBytes}
 use Rattle.library_parts.proofs.rows.are_bytes_each.Goals as goal
 
 pub loop-file-preserved : goal.loop-file-preserved

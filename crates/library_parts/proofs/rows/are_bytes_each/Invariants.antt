@@ -1,6 +1,6 @@
 use Rattle.std.proofs.Common.{take}
 use Rattle.std.specs.Prelude.{All}
-use Rattle.key_order.specs.KeyFields.{AreBytes}
+use Rattle.access_path.specs.KeyFields.{AreBytes}
 use Rattle.library_parts.proofs.rows.are_bytes_each.Given as goal
 
 abbrev pub invariant-loop-file : goal.invariant-loop-file

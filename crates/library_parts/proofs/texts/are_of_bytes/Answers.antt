@@ -1,6 +1,6 @@
 use Rattle.std.proofs.Common.{subst}
 use Rattle.std.proofs.lemmas.List.Elements.{All-more}
-use Rattle.key_order.specs.GivenValues.{IsOfBytes}
+use Rattle.access_path.specs.GivenValues.{IsOfBytes}
 use Rattle.library_parts.proofs.texts.are_of_bytes.Goals as goal
 
 pub loop-value-preserved : goal.loop-value-preserved

@@ -1,6 +1,6 @@
 use Rattle.std.proofs.Common.{◌≡◌, length, take}
 use Rattle.std.specs.List.{list_any}
-use Rattle.logical_model.specs.SamePaths.{same_path}
+use Rattle.library_steps.specs.SamePaths.{same_path}
 use Rattle.library_parts.proofs.users.stands_before.Given as goal
 
 abbrev pub invariant-loop-rest : goal.invariant-loop-rest

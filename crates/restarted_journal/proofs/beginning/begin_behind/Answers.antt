@@ -3,7 +3,7 @@ use Rattle.entry_codec.specs.declared.entries.Entry.{Entry}
 use Rattle.entry_codec.specs.Spelling.{HasSpelling}
 use Rattle.receiver_chain.proofs.Others.{roots_here}
 use Rattle.journal_book.specs.Book.{Holds}
-use Rattle.journal_opening.specs.Journals.{IsLeftBy}
+use Rattle.restart_rollback.specs.Journals.{IsLeftBy}
 use Rattle.restart_rollback.proofs.PutLemmas.{roomy-holds, still}
 use Rattle.restart_rollback.proofs.Wholes.{replayed-still}
 use Rattle.restarted_journal.specs.Restarts.{first_entry}

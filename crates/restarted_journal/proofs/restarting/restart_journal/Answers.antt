@@ -1,8 +1,8 @@
 use Rattle.std.proofs.Common.{◌≡◌, Err, ap, ◌∙◌, arith}
 use Rattle.std.proofs.lemmas.Result.{IfOk-weaker}
 use Rattle.journal_book.proofs.Attaching.{rose_after}
-use Rattle.journal_opening.specs.declared.fault.OpenFault.{OpenFault}
-use Rattle.journal_opening.specs.declared.fault.OpenFault.TheVariants.{Damaged}
+use Rattle.restart_rollback.below.journal_opening.specs.declared.fault.OpenFault.{OpenFault}
+use Rattle.restart_rollback.below.journal_opening.specs.declared.fault.OpenFault.TheVariants.{Damaged}
 use Rattle.restarted_journal.proofs.Rooted.{ended-left, ended-may, ended-restarted, ended-spelled, stays-may}
 use Rattle.restarted_journal.proofs.restarting.restart_journal.Goals as goal
 

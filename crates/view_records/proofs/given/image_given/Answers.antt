@@ -5,7 +5,7 @@ use Rattle.record_fmt.specs.Layout.{record_length}
 use Rattle.record_fmt.specs.Records.{Packs}
 use Rattle.file_model.specs.declared.views.LogicalField.{LogicalField}
 use Rattle.file_model.specs.Views.{base_image}
-use Rattle.view_rules.specs.Stored.{IsStored}
+use Rattle.logical_paths.specs.Stored.{IsStored}
 use Rattle.view_records.proofs.GivenLemmas.{few-fields, fields-stored, packed-holds, old-holds}
 use Rattle.view_records.proofs.given.image_given.Goals as goal
 

@@ -1,6 +1,6 @@
 use Rattle.std.proofs.Common.{rules, ◌≡◌, ◌∙◌, ◌==◌, None, length, sym, ap}
 use Rattle.entry_codec.specs.declared.kinds.FileKind.TheVariants.{Physical}
-use Rattle.restart_model.specs.Sources.{described_files, fields_if, is_record_of, spec_beside}
+use Rattle.named_bases.specs.Sources.{described_files, fields_if, is_record_of, spec_beside}
 use Rattle.described_journals.proofs.RecordLemmas.{no-record}
 use Rattle.described_journals.proofs.descriptions.DataDescriptionsDescribe.is_record.Goals as goal
 

@@ -1,7 +1,7 @@
 use Rattle.std.proofs.Common.{◌≡◌, ◌∙◌, Some, sym, ap, subst}
 use Rattle.std.specs.Option.{option_copied, option_map}
 use Rattle.record_fmt.specs.Layout.{record_length}
-use Rattle.logical_model.specs.Bases.{FileSpec, PhysicalFile}
+use Rattle.library_steps.specs.Bases.{FileSpec, PhysicalFile}
 use Rattle.lawful_states.specs.Physical.{IsPhysical}
 use Rattle.library_steps.specs.State.{fields_of, format_in, physical_in}
 use Rattle.parts_model.specs.Parts.{state_of}

@@ -1,7 +1,7 @@
 use Rattle.std.proofs.Common.{◌≡◌, ◌∙◌, Some, sym, ap}
 use Rattle.std.specs.Option.{option_and_then, option_copied, option_map}
 use Rattle.record_fmt.specs.Layout.{record_length}
-use Rattle.logical_model.specs.Bases.{FileSpec}
+use Rattle.library_steps.specs.Bases.{FileSpec}
 use Rattle.library_model.specs.Named.{named}
 use Rattle.library_steps.specs.State.{FileState, fields_of, format_in, physical_in}
 use Rattle.parts_model.specs.Parts.{state_of}

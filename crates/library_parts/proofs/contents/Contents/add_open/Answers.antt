@@ -1,6 +1,6 @@
 use Rattle.std.proofs.Common.{◌+◌, [], ◌∷◌, refl}
-use Rattle.job_table.specs.Opens.{order_by}
-use Rattle.job_table.specs.Table.{job_of_number}
+use Rattle.parts_model.specs.Opens.{order_by}
+use Rattle.parts_model.specs.Table.{job_of_number}
 use Rattle.library_model.specs.Named.{named}
 use Rattle.library_steps.specs.LogicalFiles.{bases_in}
 use Rattle.library_steps.specs.Opens.{new_open}

@@ -8,8 +8,8 @@ use Rattle.parts_model.specs.Sharing.{CanBeKept}
 use Rattle.parts_model.specs.KeyedViews.{HaveFewPairs}
 use Rattle.parts_model.specs.Steps.{own_path}
 use Rattle.file_model.specs.Paths.{repeated_in}
-use Rattle.logical_model.specs.Bases.{LogicalFile}
-use Rattle.logical_model.specs.FilePaths.{logical_paths}
+use Rattle.library_steps.specs.Bases.{LogicalFile}
+use Rattle.library_steps.specs.FilePaths.{logical_paths}
 use Rattle.library_model.specs.declared.replies.Reply.TheVariants.{DuplicateKey}
 use Rattle.library_steps.specs.CreateLogicalFile.{first_repeated}
 use Rattle.library_steps.specs.LogicalFiles.{bases_in, bases_of}

@@ -1,12 +1,12 @@
 use Rattle.std.proofs.Common.{◌≡◌, ◌∙◌, ◌+◌, length, refl, subst, sym, ap, arith}
 use Rattle.std.specs.Prelude.{unwrap_or}
-use Rattle.key_order.specs.KeyFields.{AreBytes}
+use Rattle.access_path.specs.KeyFields.{AreBytes}
 use Rattle.member_slots.specs.declared.slot.Slot.TheVariants.{Deleted}
 use Rattle.member_slots.specs.Member.{slot_at}
 use Rattle.member_slots.specs.Members.{NumberedMembers, member_of}
 use Rattle.parts_model.specs.RecordChanges.{moves_in}
 use Rattle.parts_model.specs.MemberSteps.{record_added, slot_replaced}
-use Rattle.job_table.specs.Table.{changes_held}
+use Rattle.parts_model.specs.Table.{changes_held}
 use Rattle.parts_model.proofs.IndexMoves.{IsIndexed-append, append-back, append-can, append-moves, room-left}
 use Rattle.parts_model.proofs.IndexPaths.{room-fewer}
 use Rattle.lawful_states.proofs.LawfulLemmas.{AreOne-appended}

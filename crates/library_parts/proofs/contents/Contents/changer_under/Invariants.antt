@@ -1,5 +1,5 @@
 use Rattle.std.proofs.Common.{◌≡◌, ◌≤◌, drop, length}
-use Rattle.logical_model.specs.Bases.{base_members, base_names}
+use Rattle.library_steps.specs.Bases.{base_members, base_names}
 use Rattle.library_steps.specs.LogicalFiles.{bases_of}
 use Rattle.library_steps.specs.State.{memory_of}
 use Rattle.library_steps.specs.Uses.{changer_of_any}

@@ -1,6 +1,6 @@
 use Rattle.std.proofs.Common.{◌≡◌, ◌∙◌, ◌≤◌, ap, arith}
 use Rattle.member_slots.specs.Members.{NumberedMembers, member_of, with_member}
-use Rattle.job_table.specs.Table.{changes_held}
+use Rattle.parts_model.specs.Table.{changes_held}
 use Rattle.library_steps.specs.Ranges.{library_bytes}
 use Rattle.lawful_states.specs.Slots.{weight}
 use Rattle.lawful_states.proofs.MemberLemmas.{member_of-with, is_some-IsSome}

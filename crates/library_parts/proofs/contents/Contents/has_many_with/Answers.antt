@@ -1,6 +1,6 @@
 use Rattle.std.proofs.Common.{◌≡◌, ◌∙◌, ◌≤◌, ◌+◌, ℕ, suc, nat_lt, true, length, append-nil, sym, ap, arith}
 use Rattle.std.proofs.lemmas.Bool.Decides.{nat_tests}
-use Rattle.logical_model.specs.SamePaths.{count_paths}
+use Rattle.library_steps.specs.SamePaths.{count_paths}
 use Rattle.library_steps.specs.declared.limits.TheConstants.{MOST_PATHS}
 use Rattle.library_steps.specs.LogicalFiles.{paths_over}
 use Rattle.library_steps.specs.State.{memory_of}

@@ -1,7 +1,7 @@
 use Rattle.std.proofs.Common.{◌≡◌, ◌++◌, take}
 use Rattle.std.specs.Prelude.{filter}
-use Rattle.logical_model.specs.FilePaths.{is_over}
-use Rattle.logical_model.specs.SamePaths.{count_paths}
+use Rattle.library_steps.specs.FilePaths.{is_over}
+use Rattle.library_steps.specs.SamePaths.{count_paths}
 use Rattle.library_steps.specs.LogicalFiles.{paths_over}
 use Rattle.library_steps.specs.State.{memory_of}
 use Rattle.library_parts.proofs.contents.Contents.has_many_with.Given as goal

@@ -1,8 +1,8 @@
 use Rattle.std.proofs.Common.{◌≡◌, ◌∙◌, ◌≤◌, ◌-◌, ℕ, suc, List, length, ap, sym, arith}
 use Rattle.std.specs.List.{list_any}
 use Rattle.file_model.specs.declared.paths.PathSpec.{PathSpec}
-use Rattle.logical_model.specs.Bases.{base_members, base_names}
-use Rattle.logical_model.specs.FilePaths.{logical_paths}
+use Rattle.library_steps.specs.Bases.{base_members, base_names}
+use Rattle.library_steps.specs.FilePaths.{logical_paths}
 use Rattle.library_steps.specs.CreateLogicalFile.{has_many}
 use Rattle.library_steps.specs.LogicalFiles.{bases_of}
 use Rattle.library_steps.specs.State.{memory_of}

@@ -3,8 +3,8 @@ use Rattle.std.specs.List.{list_any}
 use Rattle.std.specs.Prelude.{filter}
 use Rattle.std.proofs.lemmas.Option.{slice_get_read}
 use Rattle.file_model.specs.declared.paths.PathSpec.{PathSpec}
-use Rattle.logical_model.specs.FilePaths.{is_over}
-use Rattle.logical_model.specs.SamePaths.{same_path}
+use Rattle.library_steps.specs.FilePaths.{is_over}
+use Rattle.library_steps.specs.SamePaths.{same_path}
 use Rattle.library_steps.specs.LogicalFiles.{paths_over}
 use Rattle.library_steps.specs.State.{memory_of}
 use Rattle.lawful_states.proofs.NameLemmas.{some-equal}

@@ -1,7 +1,7 @@
 use Rattle.std.proofs.Common.{◌≡◌, ◌≤◌, length, drop}
 use Rattle.library_steps.specs.State.{memory_of}
 use Rattle.library_steps.specs.Uses.{user_of}
-use Rattle.job_table.specs.Users.{least_of_members}
+use Rattle.parts_model.specs.Users.{least_of_members}
 use Rattle.library_parts.proofs.contents.Contents.least_user.Given as goal
 
 abbrev pub invariant-loop-left : goal.invariant-loop-left

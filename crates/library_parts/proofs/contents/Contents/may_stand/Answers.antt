@@ -1,6 +1,6 @@
 use Rattle.std.proofs.Common.{Bool, List, true, false, sym, subst}
 use Rattle.key_spec.specs.declared.KeyPart.{KeyPart}
-use Rattle.logical_model.specs.Readings.{has_numbers}
+use Rattle.library_steps.specs.Readings.{has_numbers}
 use Rattle.file_model.specs.KeyOrder.{merged_parts}
 use Rattle.library_steps.specs.LogicalFiles.{bases_in}
 use Rattle.library_steps.specs.Records.{is_keyed}

@@ -1,5 +1,5 @@
 use Rattle.std.proofs.Common.{◌≡◌, take}
-use Rattle.logical_model.specs.Bases.{base_members}
+use Rattle.library_steps.specs.Bases.{base_members}
 use Rattle.library_steps.specs.LogicalFiles.{bases_of}
 use Rattle.library_steps.specs.State.{memory_of}
 use Rattle.library_parts.proofs.contents.Contents.members_under.Given as goal

@@ -5,8 +5,8 @@ use Rattle.parts_model.specs.CursorPosition.{entry_of}
 use Rattle.file_model.specs.KeyOrder.{merged_parts}
 use Rattle.parts_model.specs.OpenStand.{IsEntryIn}
 use Rattle.parts_model.specs.OpenPositionReads.{IsAskedOf, asked_of, entry_hit}
-use Rattle.job_table.specs.Opens.{AllOfNumber, KeptOpen, OpenOrder}
-use Rattle.job_table.specs.Table.{orders_at}
+use Rattle.parts_model.specs.Opens.{AllOfNumber, KeptOpen, OpenOrder}
+use Rattle.parts_model.specs.Table.{orders_at}
 use Rattle.library_steps.specs.LogicalFiles.{bases_in}
 use Rattle.library_steps.specs.Reads.{entry_found, has_read}
 use Rattle.library_steps.specs.Records.{is_keyed, reading_of}

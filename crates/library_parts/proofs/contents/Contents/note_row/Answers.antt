@@ -1,13 +1,13 @@
 use Rattle.std.proofs.Common.{ℕ, ◌≡◌, ◌∙◌, is_some, refl, sym, subst, ap}
 use Rattle.logical_model.below.dds_logical.specs.declared.views.LogicalSpec.TheVariants.{Join}
-use Rattle.job_table.specs.Opens.{AllOfNumber}
-use Rattle.job_table.specs.Table.{orders_at}
+use Rattle.parts_model.specs.Opens.{AllOfNumber}
+use Rattle.parts_model.specs.Table.{orders_at}
 use Rattle.lawful_states.proofs.LawfulLemmas.{AreOne-open_at}
 use Rattle.lawful_states.proofs.NameLemmas.{some-equal}
 use Rattle.library_steps.specs.Reads.{has_read, row_found}
 use Rattle.library_steps.specs.Refusals.{OpenedFile}
 use Rattle.library_steps.specs.State.{memory_of}
-use Rattle.logical_model.specs.Bases.{LogicalFile}
+use Rattle.library_steps.specs.Bases.{LogicalFile}
 use Rattle.parts_model.specs.KeptPaths.{pages_at}
 use Rattle.parts_model.specs.Parts.{state_of}
 use Rattle.parts_model.proofs.DueLemmas.{HasDue-kept}

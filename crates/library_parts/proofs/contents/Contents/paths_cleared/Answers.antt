@@ -1,7 +1,7 @@
 use Rattle.std.proofs.Common.{◌+◌, ℕ, arith, ◌≡◌, ◌∙◌, IfOk, sym, ap, subst}
 use Rattle.member_slots.specs.Member.{MemberState, cleared, empty_member}
 use Rattle.member_slots.specs.Members.{member_of, with_member}
-use Rattle.job_table.specs.Table.{changes_held}
+use Rattle.parts_model.specs.Table.{changes_held}
 use Rattle.parts_model.specs.MemberSteps.{paths_over}
 use Rattle.parts_model.specs.RebuiltPaths.{AreRebuilt, CanBeRebuilt}
 use Rattle.parts_model.specs.Parts.{state_of}

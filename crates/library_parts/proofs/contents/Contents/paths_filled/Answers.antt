@@ -1,6 +1,6 @@
 use Rattle.std.proofs.Common.{◌+◌, ℕ, arith, ◌≡◌, ◌∙◌, IfOk, ap, subst}
 use Rattle.member_slots.specs.Members.{with_member}
-use Rattle.job_table.specs.Table.{changes_held}
+use Rattle.parts_model.specs.Table.{changes_held}
 use Rattle.parts_model.specs.MemberSteps.{paths_over}
 use Rattle.parts_model.specs.RebuiltPaths.{AreRebuilt}
 use Rattle.parts_model.specs.Parts.{state_of}

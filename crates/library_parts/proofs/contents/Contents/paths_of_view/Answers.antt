@@ -1,6 +1,6 @@
 use Rattle.std.proofs.Common.{◌≡◌, ◌∙◌, Some, sym, ap}
 use Rattle.std.specs.Option.{option_copied}
-use Rattle.file_catalogue.specs.Bodies.{logical_in}
+use Rattle.parts_model.specs.Bodies.{logical_in}
 use Rattle.parts_model.specs.PathChanges.{AreNumbers}
 use Rattle.parts_model.proofs.IndexDeleted.{view-numbered}
 use Rattle.library_parts.proofs.contents.Contents.paths_of_view.Goals as goal

@@ -9,7 +9,7 @@ use Rattle.parts_model.specs.ManyChanges.{TakeImages, change_in, moves_of_all}
 use Rattle.parts_model.specs.RecordChanges.{HaveRoom, RecordChange}
 use Rattle.range_images.specs.Given.{AreInPlace}
 use Rattle.parts_model.specs.GivenChanges.{changes_given}
-use Rattle.job_table.specs.Table.{changes_held}
+use Rattle.parts_model.specs.Table.{changes_held}
 use Rattle.parts_model.specs.Parts.{state_of}
 use Rattle.parts_model.proofs.GivenTakes.{given-asked, given-long, moves-and-room}
 use Rattle.parts_model.proofs.IndexPaths.{IsIndexed-roomier}

@@ -6,7 +6,7 @@ use Rattle.member_slots.specs.Members.{member_of}
 use Rattle.parts_model.below.path_set.specs.declared.moves.PathMove.{PathMove}
 use Rattle.parts_model.specs.MemberSteps.{slot_replaced}
 use Rattle.parts_model.specs.RecordChanges.{TakeImage, HaveRoom, moves_in}
-use Rattle.job_table.specs.Table.{changes_held}
+use Rattle.parts_model.specs.Table.{changes_held}
 use Rattle.parts_model.specs.Parts.{state_of}
 use Rattle.parts_model.proofs.IndexLaws.{laws}
 use Rattle.parts_model.proofs.IndexLooks.{takes-slot, takes-stood}

@@ -3,15 +3,15 @@ use Rattle.std.proofs.Common.{◌≡◌, ◌∙◌, ◌&&◌, Option, Some, None
 use Rattle.std.specs.Borrow.{Bor}
 use Rattle.library_steps.specs.Opens.{first_of}
 use Rattle.std.specs.Option.{option_copied}
-use Rattle.file_catalogue.specs.Bodies.{spec_in}
-use Rattle.job_table.specs.Opens.{join_by}
-use Rattle.job_table.specs.declared.reads.OpenReads.{OpenReads}
+use Rattle.parts_model.specs.Bodies.{spec_in}
+use Rattle.parts_model.specs.Opens.{join_by}
+use Rattle.parts_model.below.job_table.specs.declared.reads.OpenReads.{OpenReads}
 use Rattle.library_model.specs.Named.{named}
 use Rattle.library_steps.specs.LogicalFiles.{bases_in}
 use Rattle.library_steps.specs.Records.{is_file_path}
 use Rattle.library_steps.specs.State.{FileState}
-use Rattle.logical_model.specs.Bases.{FileSpec, PhysicalFile, LogicalFile}
-use Rattle.logical_model.specs.Formats.{has_key}
+use Rattle.library_steps.specs.Bases.{FileSpec, PhysicalFile, LogicalFile}
+use Rattle.library_steps.specs.Formats.{has_key}
 use Rattle.parts_model.specs.Steps.{own_path}
 use Rattle.parts_model.specs.Indexed.{IsView, ReadsRowsBy, path_by}
 use Rattle.parts_model.specs.Parts.{LibraryParts, joined}

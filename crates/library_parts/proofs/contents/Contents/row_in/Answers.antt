@@ -3,18 +3,18 @@ use Rattle.std.specs.Option.{option_copied, option_map}
 use Rattle.key_pages.specs.EntryList.{EntryList}
 use Rattle.file_model.specs.declared.joins.JoinSpec.{JoinSpec}
 use Rattle.file_model.specs.FilePaths.{key_parts}
-use Rattle.job_table.specs.declared.reads.OpenRows.{OpenRows}
-use Rattle.job_table.specs.Opens.{JoinOrder, rows_in}
-use Rattle.job_table.proofs.FindLemmas.{Finds}
+use Rattle.parts_model.below.job_table.specs.declared.reads.OpenRows.{OpenRows}
+use Rattle.parts_model.specs.Opens.{JoinOrder, rows_in}
+use Rattle.parts_model.proofs.JobTableFindLemmas.{Finds}
 use Rattle.join_records.below.join_rows.specs.declared.rows.Row.{Row}
 use Rattle.key_spec.specs.declared.KeyPart.{KeyPart}
-use Rattle.job_table.specs.RowReads.{IsAskedOf}
+use Rattle.parts_model.specs.RowReads.{IsAskedOf}
 use Rattle.lawful_states.proofs.NameLemmas.{some-equal}
 use Rattle.library_steps.specs.LogicalFiles.{bases_in}
 use Rattle.library_steps.specs.State.{memory_of}
 use Rattle.parts_model.specs.KeptPaths.{pages_at}
 use Rattle.parts_model.specs.Parts.{state_of}
-use Rattle.logical_model.specs.FilePaths.{join_of}
+use Rattle.library_steps.specs.FilePaths.{join_of}
 use Rattle.parts_model.specs.Rows.{FindsRow, row_found_by}
 use Rattle.parts_model.proofs.JoinFound.{AreRowsKnown, finds-as, given-out, row_found, rows-found}
 use Rattle.parts_model.proofs.RowsOver.{all-given, asked-there, join-same, path-is, path-some, rows-are, rows-over, rows-read, rows-some}

@@ -2,8 +2,8 @@ use Rattle.std.proofs.Common.{◌≡◌, ◌∙◌, Bor, List, ℕ, map, ap, sym
 use Rattle.parts_model.specs.Shown.{IsShownBy}
 use Rattle.library_steps.specs.LogicalFiles.{bases_in}
 use Rattle.library_steps.specs.State.{memory_of}
-use Rattle.logical_model.specs.FilePaths.{join_of}
-use Rattle.logical_model.specs.Formats.{row_at}
+use Rattle.library_steps.specs.FilePaths.{join_of}
+use Rattle.library_steps.specs.Formats.{row_at}
 use Rattle.parts_model.specs.Parts.{state_of}
 use Rattle.parts_model.specs.Rows.{images_found}
 use Rattle.parts_model.proofs.ShownRows.{row-images}

@@ -4,12 +4,12 @@ use Rattle.logical_model.below.dds_logical.specs.declared.views.LogicalSpec.{Log
 use Rattle.logical_model.below.dds_logical.specs.declared.views.LogicalSpec.TheVariants.{Join}
 use Rattle.file_model.specs.declared.joins.Secondary.{Secondary}
 use Rattle.file_model.specs.declared.paths.PathSpec.{PathSpec}
-use Rattle.job_table.specs.RowStand.{JoinStand}
-use Rattle.key_order.specs.declared.widths.TheConstants.{MOST_POSITIONS}
-use Rattle.key_order.specs.KeyFields.{ArePositions}
+use Rattle.parts_model.specs.RowStand.{JoinStand}
+use Rattle.access_path.below.key_order.specs.declared.widths.TheConstants.{MOST_POSITIONS}
+use Rattle.access_path.specs.KeyFields.{ArePositions}
 use Rattle.key_spec.specs.declared.KeyPart.{KeyPart}
 use Rattle.library_steps.specs.LogicalFiles.{bases_in}
-use Rattle.logical_model.specs.Bases.{LogicalFile}
+use Rattle.library_steps.specs.Bases.{LogicalFile}
 use Rattle.parts_model.specs.Parts.{LibraryParts}
 use Rattle.parts_model.specs.Indexed.{AreNumbersOf, rows_paths}
 use Rattle.parts_model.proofs.FormatKeys.{join-allowed, join-few}

@@ -1,8 +1,8 @@
 use Rattle.std.proofs.Common.{Some, subst, sym}
 use Rattle.logical_model.below.dds_logical.specs.declared.views.LogicalSpec.{LogicalSpec}
-use Rattle.job_table.specs.Opens.{join_by}
+use Rattle.parts_model.specs.Opens.{join_by}
 use Rattle.library_steps.specs.LogicalFiles.{bases_in}
-use Rattle.logical_model.specs.Bases.{LogicalFile}
+use Rattle.library_steps.specs.Bases.{LogicalFile}
 use Rattle.parts_model.specs.Indexed.{IsView, ReadsRowsBy}
 use Rattle.library_parts.proofs.contents.Contents.rows_read.Goals as goal
 

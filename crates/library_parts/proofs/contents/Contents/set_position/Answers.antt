@@ -1,9 +1,9 @@
 use Rattle.std.proofs.Common.{ℕ, ◌≡◌, ◌∙◌, Ok, refl, sym, subst}
-use Rattle.logical_model.specs.Readings.{join_in}
+use Rattle.library_steps.specs.Readings.{join_in}
 use Rattle.parts_model.specs.OpenPositionReads.{side_of}
-use Rattle.job_table.specs.OpenChanges.{CanStand, IsStood}
-use Rattle.job_table.specs.Opens.{AllOfNumber, OpenOrder}
-use Rattle.job_table.specs.Table.{orders_at}
+use Rattle.parts_model.specs.OpenChanges.{CanStand, IsStood}
+use Rattle.parts_model.specs.Opens.{AllOfNumber, OpenOrder}
+use Rattle.parts_model.specs.Table.{orders_at}
 use Rattle.library_steps.specs.LogicalFiles.{bases_in}
 use Rattle.library_steps.specs.Reads.{bound_asked, positioned}
 use Rattle.library_steps.specs.Refusals.{OpenedFile}

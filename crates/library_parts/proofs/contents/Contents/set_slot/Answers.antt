@@ -8,7 +8,7 @@ use Rattle.member_slots.specs.Members.{NumberedMembers, member_of}
 use Rattle.parts_model.specs.RecordChanges.{moves_in}
 use Rattle.parts_model.specs.MemberSteps.{slot_replaced}
 use Rattle.library_steps.specs.State.{FileState, fields_of}
-use Rattle.job_table.specs.Table.{changes_held}
+use Rattle.parts_model.specs.Table.{changes_held}
 use Rattle.parts_model.proofs.IndexMoves.{IsIndexed-set, replace-back, replace-can, room-left, slot-stands}
 use Rattle.parts_model.proofs.IndexPaths.{room-fewer}
 use Rattle.lawful_states.proofs.LawfulLemmas.{AreOne-changed}

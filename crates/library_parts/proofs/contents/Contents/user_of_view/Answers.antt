@@ -1,6 +1,6 @@
 use Rattle.std.proofs.Common.{◌∙◌, sym, ap}
-use Rattle.logical_model.specs.Bases.{base_members}
-use Rattle.job_table.specs.Users.{first_opener}
+use Rattle.library_steps.specs.Bases.{base_members}
+use Rattle.parts_model.specs.Users.{first_opener}
 use Rattle.library_steps.specs.Checkpoint.{lesser}
 use Rattle.library_steps.specs.LogicalFiles.{bases_of}
 use Rattle.library_steps.specs.State.{memory_of}
