@@ -11,5 +11,6 @@ mod whole;
 
 pub use described::{DescribedFile, DescribedFiles};
 pub use descriptions::DataDescriptions;
+pub use file_catalogue;
 pub use restart_laws;
 pub use whole::described_files;

@@ -16,3 +16,5 @@ pub fn journal_is_kept()
 pub fn an_empty_library_agrees()
     ensures { Agrees empty_library }
 {}
+
+pub use range_histories;
