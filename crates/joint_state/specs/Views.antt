@@ -1,7 +1,7 @@
 -- What logical files store lies in whole fields of their base files' records, so that what is given through them makes records of these.
 -- (DDS for Physical and Logical Files, "CONCAT", "SST".)
 use Rattle.std.specs.Prelude.{◌≡◌, ℕ, Some, IsSome, List, slice_get}
-use Rattle.logical_model.below.dds_logical.specs.declared.views.LogicalSpec.{LogicalSpec}
+use Rattle.logical_laws.below.dds_logical.specs.declared.views.LogicalSpec.{LogicalSpec}
 use Rattle.library_model.specs.Named.{Named, named}
 use Rattle.logical_laws.specs.Bases.{Bases, FileSpec, PhysicalFile, LogicalFile, base_names}
 use Rattle.logical_laws.specs.Mapped.{IsSpecMapped, HoldDefaults}

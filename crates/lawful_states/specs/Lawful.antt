@@ -12,7 +12,7 @@ use Rattle.library_steps.specs.Rollback.{MemberChange}
 use Rattle.library_steps.below.record_fmt.specs.declared.formats.Field.{Field}
 use Rattle.library_steps.specs.Layout.{record_length}
 use Rattle.library_steps.specs.RecordFmtRecords.{record_held}
-use Rattle.logical_model.below.dds_logical.specs.declared.views.LogicalSpec.{LogicalSpec}
+use Rattle.library_steps.below.dds_logical.specs.declared.views.LogicalSpec.{LogicalSpec}
 use Rattle.library_steps.specs.Bases.{FileSpec, PhysicalFile, LogicalFile, base_names, base_members}
 use Rattle.lawful_states.specs.Owners.{Owns, has_number}
 use Rattle.lawful_states.specs.Jobs.{AreOfJobs}

@@ -8,7 +8,7 @@ use Rattle.dds_source.specs.declared.faults.DdsFault.{DdsFault}
 use Rattle.dds_source.specs.declared.specifications.Source.{Source}
 use Rattle.dds_source.specs.Reading.{source_of}
 use Rattle.library_steps.below.dds_physical.specs.declared.physical_files.PhysicalSpec.{PhysicalSpec}
-use Rattle.logical_model.below.dds_logical.specs.declared.views.LogicalSpec.{LogicalSpec}
+use Rattle.library_steps.below.dds_logical.specs.declared.views.LogicalSpec.{LogicalSpec}
 use Rattle.library_steps.specs.Bases.{FileSpec, PhysicalFile, LogicalFile, base_members, base_names}
 use Rattle.library_steps.specs.FilePaths.{logical_paths}
 use Rattle.joint_state.specs.Mapped.{HoldDefaults}

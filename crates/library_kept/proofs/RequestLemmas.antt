@@ -42,7 +42,7 @@ use Rattle.library_steps.specs.State.{State, Memory, FileState, MemberStatus, me
 use Rattle.library_steps.specs.Step.{change}
 use Rattle.library_steps.specs.Uses.{user_of, unused}
 use Rattle.library_steps.specs.WriteRecord.{write_plan, write_change, write_call}
-use Rattle.logical_model.below.dds_logical.specs.declared.views.LogicalSpec.{LogicalSpec}
+use Rattle.library_steps.below.dds_logical.specs.declared.views.LogicalSpec.{LogicalSpec}
 use Rattle.library_steps.specs.Bases.{FileSpec, PhysicalFile, LogicalFile, base_members, base_names}
 use Rattle.library_steps.specs.Readings.{join_in}
 use Rattle.lawful_states.specs.Lawful.{IsOfMember, IsOverBases, OpensBy, OpensFile, OpenHolds}

@@ -1,7 +1,7 @@
 -- What a logical file stores still lies in whole fields of its base files, where these stay.
 use Rattle.std.proofs.Common.{◌≡◌, ℕ, IsSome, Some, List, refl, sym, subst}
 use Rattle.std.specs.List.{AllByRecursion}
-use Rattle.logical_model.below.dds_logical.specs.declared.views.LogicalSpec.{LogicalSpec}
+use Rattle.library_steps.below.dds_logical.specs.declared.views.LogicalSpec.{LogicalSpec}
 use Rattle.library_steps.specs.Bases.{FileSpec, PhysicalFile, LogicalFile, base_names}
 use Rattle.joint_state.proofs.SameLemmas.{same-mapped}
 use Rattle.library_model.specs.Named.{Named, named}

@@ -13,7 +13,7 @@ ghost use Rattle.library_steps.specs.UniqueKeys.{all_apart, has_member, own_uniq
 ghost use Rattle.parts_model.specs.Answers.{MayAllow};
 ghost use Rattle.parts_model.specs.Given.{AreMovesOfAll, AreTold, CanTake, HasRoomFor, IsTold, MayGive, members_given, unique_of, with_given};
 ghost use Rattle.parts_model.specs.Indexed.{AreViews, HasBytes};
-ghost use Rattle.logical_model.below.dds_logical.specs.declared.views.LogicalSpec.TheVariants.{Join, Simple};
+ghost use Rattle.library_steps.below.dds_logical.specs.declared.views.LogicalSpec.TheVariants.{Join, Simple};
 
 use crate::bases::LibraryBases;
 use crate::contents::Contents;

@@ -28,7 +28,7 @@ ghost use Rattle.library_steps.specs.Readings.{has_numbers, join_in};
 ghost use Rattle.parts_model.specs.Steps.{own_path};
 ghost use Rattle.parts_model.specs.Indexed.{AreNumbersOf, IsUnjoined, IsView, ReadsRowsBy, path_by};
 ghost use Rattle.parts_model.specs.RowStand as rows;
-ghost use Rattle.logical_model.below.dds_logical.specs.declared.views.LogicalSpec.TheVariants.{Join};
+ghost use Rattle.library_steps.below.dds_logical.specs.declared.views.LogicalSpec.TheVariants.{Join};
 ghost use Rattle.parts_model.specs.KeyedViews.{IsKeyedJoin};
 ghost use Rattle.parts_model.specs.Finds.{OpensMembers, ReadsMember};
 ghost use Rattle.parts_model.specs.Reads.{CanNote, CanStand, CanStandAmong, CanStandIn, FindsEntry, GivesKey, HasKeyOf, IsAlongPath, IsInArrival, IsLookedIn, MayHaveKey, MayReadSo, Stands, TakesNumbers, ReadsAmong, ReadsAs, ReadsFor, ReadsNew, ReadsSo, formats_read, found_by, has_positions, orders_in, stood_at};

@@ -1,7 +1,7 @@
 //! The rows of a join file: what a read through an open finds among them, what a row shows, and where the open stands then.
 ghost use Rattle.std.specs.Prelude.{◌≡◌, All, Ok, Some, IfOk, IsSome, IsTrue, map};
 ghost use Rattle.std.specs.List.{AllByRecursion};
-ghost use Rattle.logical_model.below.dds_logical.specs.declared.views.LogicalSpec.TheVariants.{Join};
+ghost use Rattle.library_steps.below.dds_logical.specs.declared.views.LogicalSpec.TheVariants.{Join};
 ghost use Rattle.file_model.specs.FilePaths.{key_parts};
 ghost use Rattle.file_model.specs.Joins.{RowPlace};
 ghost use Rattle.parts_model.specs.RowReads.{IsAskedOf};

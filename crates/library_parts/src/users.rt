@@ -2,7 +2,7 @@
 //! file, and the members that a logical file is over.
 ghost use Rattle.std.specs.Prelude.{◌≡◌, ℕ, ◌+◌, ◌<◌, ◌≤◌, not, if◌then◌else◌, Some, ◌++◌, ◌&&◌, ◌||◌, length, map, filter, take, slice_get, IfOk};
 ghost use Rattle.std.specs.List.{list_any};
-ghost use Rattle.logical_model.below.dds_logical.specs.declared.views.LogicalSpec.TheVariants.{Join, Multi};
+ghost use Rattle.library_steps.below.dds_logical.specs.declared.views.LogicalSpec.TheVariants.{Join, Multi};
 ghost use Rattle.file_model.specs.declared.paths.PathSpec.{PathSpec};
 ghost use Rattle.library_steps.specs.Bases.{base_members, base_names};
 ghost use Rattle.library_steps.specs.FilePaths.{is_over, logical_paths};

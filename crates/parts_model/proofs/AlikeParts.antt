@@ -7,7 +7,7 @@ use Rattle.field_types.specs.declared.faults.RecordFault.TheVariants.{Count}
 use Rattle.field_values.specs.FieldTypes.{width}
 use Rattle.key_spec.specs.declared.KeyPart.{KeyPart}
 use Rattle.key_spec.specs.declared.KeyPart.TheVariants.{Field, Absent}
-use Rattle.logical_model.below.dds_logical.specs.declared.views.View.{View}
+use Rattle.library_steps.below.dds_logical.specs.declared.views.View.{View}
 use Rattle.file_model.specs.FilePaths.{key_parts}
 use Rattle.file_model.specs.KeyOrder.{KeyValue, either_part, either_parts, given_key, given_value, merged_parts}
 use Rattle.access_path.specs.GivenValues.{fault_before, key_fault, part_fault, value_fault}

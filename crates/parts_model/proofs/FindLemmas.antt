@@ -2,9 +2,9 @@
 use Rattle.std.proofs.Common.{◌≡◌, ℕ, zero, suc, ◌-◌, true, map, List, [], ◌∷◌, Option, Some, None, IsSome, Result, Ok, Err, slice_get, subst, refl, sym, ◌∙◌, ap, arith, ◌<◌, ◌≤◌, length, unwrap_or}
 use Rattle.lawful_states.proofs.NameLemmas.{some-equal}
 use Rattle.library_steps.specs.Formats.{format_names}
-use Rattle.logical_model.below.dds_logical.specs.declared.views.View.{View}
+use Rattle.library_steps.below.dds_logical.specs.declared.views.View.{View}
 use Rattle.std.specs.List.{AllByRecursion}
-use Rattle.logical_model.below.dds_logical.specs.declared.views.LogicalSpec.TheVariants.{Simple, Multi, Join}
+use Rattle.library_steps.below.dds_logical.specs.declared.views.LogicalSpec.TheVariants.{Simple, Multi, Join}
 use Rattle.record_fmt.specs.declared.formats.Field.{Field}
 use Rattle.record_fmt.specs.Layout.{IsLaidOut}
 use Rattle.library_steps.specs.Bases.{Bases, FileSpec, PhysicalFile, LogicalFile, base_names}
@@ -31,8 +31,8 @@ use Rattle.parts_model.specs.Indexed.{AreViews, IsViewBeside}
 use Rattle.parts_model.specs.Keyed.{AllAreKeyed}
 use Rattle.lawful_states.specs.Lawful.{IsBased, OpenHolds, OpensBy, OpensFile, StandsOver, IsLibrary, IsOverBases}
 use Rattle.lawful_states.proofs.FindLemmas.{named-each, physical-opened, has-base}
-use Rattle.logical_model.below.dds_logical.specs.declared.join_views.JoinView.{JoinView}
-use Rattle.logical_model.below.dds_logical.specs.declared.join_views.JoinedFile.{JoinedFile}
+use Rattle.library_steps.below.dds_logical.specs.declared.join_views.JoinView.{JoinView}
+use Rattle.library_steps.below.dds_logical.specs.declared.join_views.JoinedFile.{JoinedFile}
 
 -- ---- a file of this kind
 

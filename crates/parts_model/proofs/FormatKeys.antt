@@ -8,9 +8,9 @@ use Rattle.key_spec.specs.declared.KeyPart.TheVariants.{Field, Absent}
 use Rattle.access_path.below.key_order.specs.declared.widths.TheConstants.{MOST_POSITIONS}
 use Rattle.access_path.specs.KeyFields.{ArePositions, IsPosition}
 use Rattle.library_steps.below.dds_physical.specs.declared.physical_files.PhysicalSpec.{PhysicalSpec}
-use Rattle.logical_model.below.dds_logical.specs.declared.views.View.{View}
-use Rattle.logical_model.below.dds_logical.specs.declared.views.LogicalSpec.{LogicalSpec}
-use Rattle.logical_model.below.dds_logical.specs.declared.views.LogicalSpec.TheVariants.{Simple, Multi, Join}
+use Rattle.library_steps.below.dds_logical.specs.declared.views.View.{View}
+use Rattle.library_steps.below.dds_logical.specs.declared.views.LogicalSpec.{LogicalSpec}
+use Rattle.library_steps.below.dds_logical.specs.declared.views.LogicalSpec.TheVariants.{Simple, Multi, Join}
 use Rattle.file_model.specs.declared.paths.PathFormat.{PathFormat}
 use Rattle.file_model.specs.declared.paths.PathSpec.{PathSpec}
 use Rattle.file_model.specs.FilePaths.{key_parts, physical_path}
@@ -25,7 +25,7 @@ use Rattle.file_catalogue.proofs.PositionLemmas.{parts-allowed, parts-few}
 use Rattle.open_position.specs.OpenStand.{AreFormatKeys}
 use Rattle.parts_model.specs.Indexed.{IsView}
 use Rattle.parts_model.proofs.OpenLooks.{merged-one}
-use Rattle.logical_model.below.dds_logical.specs.declared.join_views.JoinView.{JoinView}
+use Rattle.library_steps.below.dds_logical.specs.declared.join_views.JoinView.{JoinView}
 use Rattle.view_records.proofs.KeyLemmas.{parts-length, parts-allowed as joined-allowed}
 
 either-few : (n : ℕ) (ps qs : List KeyPart) → length ps ≤ n → length qs ≤ n → length (either_parts ps qs) ≤ n

@@ -9,7 +9,7 @@ use Rattle.std.proofs.lemmas.Bool.Decides.{nat_tests}
 use Rattle.std.proofs.lemmas.List.Elements.{recursion_from_All}
 use Rattle.member_slots.specs.Members.{Numbered, NumberedMembers, item_at}
 use Rattle.library_steps.below.dds_physical.specs.declared.physical_files.PhysicalSpec.{PhysicalSpec}
-use Rattle.logical_model.below.dds_logical.specs.declared.views.LogicalSpec.{LogicalSpec}
+use Rattle.library_steps.below.dds_logical.specs.declared.views.LogicalSpec.{LogicalSpec}
 use Rattle.file_model.specs.declared.paths.PathSpec.{PathSpec}
 use Rattle.file_model.specs.FilePaths.{physical_path}
 use Rattle.library_steps.specs.Bases.{FileSpec, PhysicalFile, LogicalFile, base_members, Bases}
@@ -52,8 +52,8 @@ use Rattle.parts_model.proofs.IndexStatus.{turned-bases, views-alike}
 use Rattle.parts_model.proofs.IndexFiles.{stand-based, own-first, paths-unchanged}
 use Rattle.parts_model.proofs.IndexGone.{IsFree, bytes-left, changes-free, has-first, has-later, is-free, jobs-free, over-left}
 use Rattle.parts_model.proofs.IndexDetached.{first-found, found_over, none-over}
-use Rattle.logical_model.below.dds_logical.specs.declared.views.LogicalSpec.TheVariants.{Simple, Multi, Join}
-use Rattle.logical_model.below.dds_logical.specs.declared.join_views.JoinView.{JoinView}
+use Rattle.library_steps.below.dds_logical.specs.declared.views.LogicalSpec.TheVariants.{Simple, Multi, Join}
+use Rattle.library_steps.below.dds_logical.specs.declared.join_views.JoinView.{JoinView}
 use Rattle.library_steps.specs.FilePaths.{logical_paths}
 use Rattle.library_paths.specs.Mapped.{AreSameBases}
 use Rattle.library_paths.proofs.SameLemmas.{same-paths}

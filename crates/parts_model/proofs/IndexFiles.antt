@@ -1,7 +1,7 @@
 -- The kept paths are those of a library still, with a file more, physical or logical, or a member.
 use Rattle.std.proofs.Common.{ℕ, ◌+◌, ◌-◌, ◌<◌, ◌≤◌, ◌≡◌, ◌≢◌, ◌==◌, ◌||◌, nat_eq, nat_lt, if◌then◌else◌, Bool, true, false, cond, List, [], ◌∷◌, ◌++◌, length, map, length-append, Option, Some, None, is_some, IfSome, Ok, Err, Result, refl, sym, ap, arith, ◌∙◌, subst, slice_get, IsSome}
 use Rattle.library_paths.proofs.SomeLemmas.{logical-some}
-use Rattle.logical_model.below.dds_logical.specs.declared.views.View.{View}
+use Rattle.library_steps.below.dds_logical.specs.declared.views.View.{View}
 use Rattle.std.specs.Prelude.{All, replicate}
 use Rattle.std.specs.List.{AllByRecursion, IsDistinct, list_any}
 use Rattle.std.specs.Map.{keys_of}
@@ -27,8 +27,8 @@ use Rattle.key_spec.specs.declared.Ties.TheVariants.{Rising}
 use Rattle.library_steps.specs.FormatLines.{FormatLines, formats_in, is_join_file, is_multi_format}
 use Rattle.library_steps.specs.Keys.{padded}
 use Rattle.library_steps.specs.Logical.{described_by, faults_over, format_parts, join_described_by, logical_faults, logical_of, logical_specification, most_parts, one_or_several, view_described}
-use Rattle.logical_model.below.dds_logical.specs.declared.views.LogicalSpec.{LogicalSpec}
-use Rattle.logical_model.below.dds_logical.specs.declared.views.LogicalSpec.TheVariants.{Simple, Multi, Join}
+use Rattle.library_steps.below.dds_logical.specs.declared.views.LogicalSpec.{LogicalSpec}
+use Rattle.library_steps.below.dds_logical.specs.declared.views.LogicalSpec.TheVariants.{Simple, Multi, Join}
 use Rattle.library_steps.specs.Bases.{Base, Bases, FileSpec, PhysicalFile, LogicalFile, base_members, base_names}
 use Rattle.library_steps.specs.FilePaths.{logical_paths, view_format, secondary_of}
 use Rattle.library_paths.proofs.LogicalLawsListLemmas.{each-append, each-weaker}
@@ -78,7 +78,7 @@ use Rattle.parts_model.proofs.IndexShared.{IsUnchanged, IsIndexed-attached, IsIn
 use Rattle.parts_model.proofs.IndexStatus.{beside-alike, files-alike, views-alike}
 use Rattle.parts_model.proofs.IndexGone.{jobs-free}
 use Rattle.file_model.specs.Joins.{secondary_path}
-use Rattle.logical_model.below.dds_logical.specs.declared.join_views.JoinedFile.{JoinedFile}
+use Rattle.library_steps.below.dds_logical.specs.declared.join_views.JoinedFile.{JoinedFile}
 use Rattle.join_records.proofs.DescribedLemmas.{described-linked}
 
 -- ---- each file stands

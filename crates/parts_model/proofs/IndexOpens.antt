@@ -30,7 +30,7 @@ use Rattle.library_steps.specs.State.{FileState, OpenState, JobState, job_change
 use Rattle.library_steps.specs.Uses.{changes_in}
 use Rattle.parts_model.specs.Indexed.{IsReadSo, ReadsBy, ReadsFile, ReadsIn, OpensRead, moves_back, moves_of_job, changes_over, path_read, IsIndexed, ReadsRowsBy}
 use Rattle.parts_model.proofs.IndexPaths.{counted_in, changes_over-cons, spares-fewer}
-use Rattle.logical_model.below.dds_logical.specs.declared.join_views.JoinView.{JoinView}
+use Rattle.library_steps.below.dds_logical.specs.declared.join_views.JoinView.{JoinView}
 
 -- ---- opens that read as they did
 

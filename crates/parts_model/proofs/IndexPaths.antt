@@ -12,8 +12,8 @@ use Rattle.file_model.specs.declared.paths.PathFormat.{PathFormat}
 use Rattle.file_model.specs.declared.paths.PathSpec.{PathSpec}
 use Rattle.file_model.specs.FilePaths.{every_record, own_fields, path_format, physical_path}
 use Rattle.library_steps.below.dds_physical.specs.declared.physical_files.PhysicalSpec.{PhysicalSpec}
-use Rattle.logical_model.below.dds_logical.specs.declared.views.LogicalSpec.{LogicalSpec}
-use Rattle.logical_model.below.dds_logical.specs.declared.views.LogicalSpec.TheVariants.{Simple, Multi, Join}
+use Rattle.library_steps.below.dds_logical.specs.declared.views.LogicalSpec.{LogicalSpec}
+use Rattle.library_steps.below.dds_logical.specs.declared.views.LogicalSpec.TheVariants.{Simple, Multi, Join}
 use Rattle.library_steps.specs.Bases.{Bases, FileSpec, PhysicalFile, LogicalFile}
 use Rattle.library_steps.specs.FilePaths.{view_format, secondary_of}
 use Rattle.library_steps.specs.Formats.{has_key}
@@ -41,8 +41,8 @@ use Rattle.parts_model.specs.Indexed.{AreViews, AreViewsBeside, IsViewBeside, Ar
 use Rattle.lawful_states.specs.Lawful.{GoesBack, CycleGoesBack, AllGoBack}
 use Rattle.lawful_states.proofs.BaseLemmas.{IsKept}
 use Rattle.file_model.specs.Joins.{secondary_path}
-use Rattle.logical_model.below.dds_logical.specs.declared.join_views.JoinView.{JoinView}
-use Rattle.logical_model.below.dds_logical.specs.declared.join_views.JoinedFile.{JoinedFile}
+use Rattle.library_steps.below.dds_logical.specs.declared.join_views.JoinView.{JoinView}
+use Rattle.library_steps.below.dds_logical.specs.declared.join_views.JoinedFile.{JoinedFile}
 
 -- ---- lists
 

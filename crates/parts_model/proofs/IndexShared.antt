@@ -29,7 +29,7 @@ use Rattle.parts_model.specs.Indexed.{AreOfBytes, AreSameBasesBy, AreViews, IsIn
 use Rattle.parts_model.specs.PathChanges.{IsAttached}
 use Rattle.lawful_states.proofs.BaseLemmas.{Keeps-self}
 use Rattle.parts_model.proofs.IndexPaths.{FileStays, FilesStay, OfChanges, PathsStay, changes-each, changes-none, moves-among, orders-stay, read-stays, any-both}
-use Rattle.logical_model.below.dds_logical.specs.declared.views.LogicalSpec.TheVariants.{Simple, Multi, Join}
+use Rattle.library_steps.below.dds_logical.specs.declared.views.LogicalSpec.TheVariants.{Simple, Multi, Join}
 
 pub clash : {b : Bool} → b ≡ true → b ≡ false → ⊥
 clash yes_is no_is = absurd cc

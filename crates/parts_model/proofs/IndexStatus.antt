@@ -1,10 +1,10 @@
 -- The kept paths are those of a library still, when files change in what doesn't tell their paths.
 use Rattle.std.proofs.Common.{◌≡◌, ℕ, List, [], ◌∷◌, map, Some, refl, ap, sym, subst}
-use Rattle.logical_model.below.dds_logical.specs.declared.views.View.{View}
+use Rattle.library_steps.below.dds_logical.specs.declared.views.View.{View}
 use Rattle.std.specs.List.{AllByRecursion}
 use Rattle.member_slots.specs.Members.{NumberedMembers}
-use Rattle.logical_model.below.dds_logical.specs.declared.views.LogicalSpec.{LogicalSpec}
-use Rattle.logical_model.below.dds_logical.specs.declared.views.LogicalSpec.TheVariants.{Simple, Multi, Join}
+use Rattle.library_steps.below.dds_logical.specs.declared.views.LogicalSpec.{LogicalSpec}
+use Rattle.library_steps.below.dds_logical.specs.declared.views.LogicalSpec.TheVariants.{Simple, Multi, Join}
 use Rattle.library_steps.specs.Bases.{Base, Bases, FileSpec, PhysicalFile, LogicalFile, base_names}
 use Rattle.library_paths.specs.Mapped.{AreSameBases}
 use Rattle.library_paths.proofs.SameLemmas.{same-mapped}
@@ -26,8 +26,8 @@ use Rattle.parts_model.specs.Indexed.{AreSameBasesBy, AreViewsBeside, IsIndexed,
 use Rattle.lawful_states.proofs.BaseLemmas.{IsKept, Keeps-status, kept-each}
 use Rattle.parts_model.proofs.IndexPaths.{FilesStay}
 use Rattle.parts_model.proofs.IndexShared.{IsIndexed-files, opens-stay}
-use Rattle.logical_model.below.dds_logical.specs.declared.join_views.JoinView.{JoinView}
-use Rattle.logical_model.below.dds_logical.specs.declared.join_views.JoinedFile.{JoinedFile}
+use Rattle.library_steps.below.dds_logical.specs.declared.join_views.JoinView.{JoinView}
+use Rattle.library_steps.below.dds_logical.specs.declared.join_views.JoinedFile.{JoinedFile}
 use Rattle.record_fmt.specs.Layout.{IsLaidOut}
 use Rattle.view_records.specs.Steps.{shown_in_join}
 use Rattle.join_records.proofs.SameLemmas.{same-linked}

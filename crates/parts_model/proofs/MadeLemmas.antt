@@ -1,7 +1,7 @@
 -- A list that is made item by item from another.
 use Rattle.std.proofs.Common.{◌≡◌, ◌∙◌, ℕ, ◌+◌, List, [], ◌∷◌, ◌++◌, drop, map, append-nil, append_assoc, refl, ap, sym, subst}
 use Rattle.std.specs.List.{AllZip}
-use Rattle.logical_model.below.dds_logical.specs.declared.join_views.JoinedFile.{JoinedFile}
+use Rattle.library_steps.below.dds_logical.specs.declared.join_views.JoinedFile.{JoinedFile}
 use Rattle.file_model.specs.declared.joins.Secondary.{Secondary}
 use Rattle.key_spec.specs.declared.KeyPart.{KeyPart}
 

@@ -1,7 +1,7 @@
 -- The key that a request gives and the place where it sets a position, by the positions of the open's key.
 use Rattle.std.proofs.Common.{◌≡◌, ℕ, ◌+◌, ◌||◌, nat_lt, not, Bool, true, false, if◌then◌else◌, List, [], ◌∷◌, length, Option, Some, None, Result, Ok, Err, refl, sym, ap, subst, ◌∙◌, map, ◌&&◌}
 use Rattle.parts_model.proofs.AlikeParts.{views-fault, views-given}
-use Rattle.logical_model.below.dds_logical.specs.declared.views.View.{View}
+use Rattle.library_steps.below.dds_logical.specs.declared.views.View.{View}
 use Rattle.std.specs.Prelude.{is_ok}
 use Rattle.field_types.specs.declared.values.Value.{Value}
 use Rattle.field_types.specs.declared.faults.ValueFault.{ValueFault}
@@ -10,7 +10,7 @@ use Rattle.field_types.specs.declared.faults.RecordFault.TheVariants.{Count}
 use Rattle.field_values.specs.FieldBytes.{fault_of}
 use Rattle.key_spec.specs.declared.KeyPart.{KeyPart}
 use Rattle.key_spec.specs.declared.KeyPart.TheVariants as parts
-use Rattle.logical_model.below.dds_logical.specs.declared.views.LogicalSpec.TheVariants.{Simple, Multi, Join}
+use Rattle.library_steps.below.dds_logical.specs.declared.views.LogicalSpec.TheVariants.{Simple, Multi, Join}
 use Rattle.file_model.specs.FilePaths.{key_parts}
 use Rattle.file_model.specs.KeyOrder.{KeyValue, given_key, merged_parts}
 use Rattle.file_model.specs.Paths.{PathEntry}
@@ -38,7 +38,7 @@ use Rattle.parts_model.specs.declared.stop.Stop.TheVariants.{NoMemory, Refused}
 use Rattle.parts_model.specs.Indexed.{IsReadSo, ReadsRowsBy, path_by}
 use Rattle.parts_model.specs.Reads.{CanStandIn, GivesKey, HasKeyOf, MayHaveKey, ReadsSo, Stands, formats_read, parts_read, refusal, stood_at, TakesNumbers, CanStandAmong, formats_by}
 use Rattle.parts_model.proofs.OpenLooks.{formats-are, merged-one, own_parts, HasOneFormat, formats-of-views}
-use Rattle.logical_model.below.dds_logical.specs.declared.join_views.JoinView.{JoinView}
+use Rattle.library_steps.below.dds_logical.specs.declared.join_views.JoinView.{JoinView}
 use Rattle.open_position.specs.declared.position.StandAt.{StandAt}
 use Rattle.job_table.specs.RowStand as rows
 use Rattle.path_set.specs.KeptPaths.{NumberedPaths}

@@ -29,8 +29,8 @@ use Rattle.file_model.specs.Selection.{selects}
 use Rattle.file_model.proofs.PathLemmas.{all-map, all-append}
 use Rattle.access_path.specs.PathBytes.{IsInBytes}
 use Rattle.access_path.proofs.OrderedLemmas.{all-in_order}
-use Rattle.logical_model.below.dds_logical.specs.declared.views.LogicalSpec.TheVariants.{Simple, Multi, Join}
-use Rattle.logical_model.below.dds_logical.specs.declared.views.View.{View}
+use Rattle.library_steps.below.dds_logical.specs.declared.views.LogicalSpec.TheVariants.{Simple, Multi, Join}
+use Rattle.library_steps.below.dds_logical.specs.declared.views.View.{View}
 use Rattle.library_steps.specs.Bases.{Bases, FileSpec, PhysicalFile, LogicalFile, base_members, base_names}
 use Rattle.library_steps.specs.FilePaths.{view_format, views_path}
 use Rattle.library_steps.specs.Formats.{has_key, format_names}

@@ -7,7 +7,7 @@ use Rattle.std.proofs.lemmas.Bool.{cases_eq}
 use Rattle.std.proofs.lemmas.List.Elements.{All-filter, recursion_from_All}
 use Rattle.record_fmt.specs.declared.formats.Field.{Field}
 use Rattle.library_steps.below.dds_physical.specs.declared.physical_files.PhysicalSpec.{PhysicalSpec}
-use Rattle.logical_model.below.dds_logical.specs.declared.views.LogicalSpec.{LogicalSpec}
+use Rattle.library_steps.below.dds_logical.specs.declared.views.LogicalSpec.{LogicalSpec}
 use Rattle.library_steps.specs.Bases.{PhysicalFile, LogicalFile}
 use Rattle.library_steps.specs.FilePaths.{logical_paths}
 use Rattle.member_slots.specs.declared.slot.Slot.{Slot}

@@ -12,7 +12,7 @@ use Rattle.dds_source.specs.declared.specifications.Source.{Source}
 use Rattle.dds_source.specs.Faults.{first_after}
 use Rattle.library_steps.specs.Physical.{ties_of}
 use Rattle.library_steps.below.dds_physical.specs.declared.physical_files.PhysicalSpec.{PhysicalSpec}
-use Rattle.logical_model.below.dds_logical.specs.declared.views.LogicalSpec.{LogicalSpec}
+use Rattle.library_steps.below.dds_logical.specs.declared.views.LogicalSpec.{LogicalSpec}
 use Rattle.library_steps.specs.FormatLines.{FormatLines, formats_in, is_join_file, is_multi_format}
 use Rattle.library_steps.specs.Keys.{padded}
 use Rattle.library_steps.specs.Logical.{format_parts, most_parts, view_described, one_or_several, join_described_by, described_by, faults_over, logical_specification, logical_faults, logical_of, ties_with}

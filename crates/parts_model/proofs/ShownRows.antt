@@ -2,7 +2,7 @@
 use Rattle.std.proofs.Common.{◌≡◌, ◌∙◌, Bool, true, false, cond, Some, List, [], ◌∷◌, ap}
 use Rattle.std.specs.List.{find}
 use Rattle.std.specs.Ordering.{is_eq}
-use Rattle.logical_model.below.dds_logical.specs.declared.join_views.JoinView.{JoinView}
+use Rattle.library_steps.below.dds_logical.specs.declared.join_views.JoinView.{JoinView}
 use Rattle.file_model.specs.Joins.{JoinRow, RowPlace, compare_places, rows_of}
 use Rattle.key_spec.specs.declared.Ties.{Ties}
 use Rattle.lawful_states.proofs.NameLemmas.{some-equal}

@@ -1,6 +1,6 @@
 -- Who uses a file, by its kind.
 use Rattle.std.proofs.Common.{◌≡◌, ℕ, Some, None, List, refl, subst}
-use Rattle.logical_model.below.dds_logical.specs.declared.views.LogicalSpec.{LogicalSpec}
+use Rattle.library_steps.below.dds_logical.specs.declared.views.LogicalSpec.{LogicalSpec}
 use Rattle.library_steps.specs.Bases.{FileSpec, PhysicalFile, LogicalFile, base_members}
 use Rattle.file_catalogue.specs.Bodies.{logical_in}
 use Rattle.library_steps.specs.DeleteFile.{user_by}

@@ -2,8 +2,8 @@
 use Rattle.std.specs.Prelude.{◌≡◌, ℕ, ◌<◌, true, Option, Some, None, Result, Ok, Err, List, [], ◌∷◌, length, slice_get}
 use Rattle.std.specs.Borrow.{Bor}
 use Rattle.job_table.specs.Opens.{KeptOpen}
-use Rattle.logical_model.below.dds_logical.specs.declared.views.View.{View}
-use Rattle.logical_model.below.dds_logical.specs.declared.views.LogicalSpec.TheVariants.{Simple, Multi, Join}
+use Rattle.library_steps.below.dds_logical.specs.declared.views.View.{View}
+use Rattle.library_steps.below.dds_logical.specs.declared.views.LogicalSpec.TheVariants.{Simple, Multi, Join}
 use Rattle.record_fmt.specs.Layout.{IsLaidOut}
 use Rattle.library_steps.specs.Bases.{FileSpec, PhysicalFile, LogicalFile, base_members, base_names}
 use Rattle.library_steps.specs.Formats.{format_names}

@@ -12,9 +12,9 @@ use Rattle.key_spec.specs.declared.Ties.TheVariants.{Rising}
 use Rattle.file_model.specs.declared.paths.PathSpec.{PathSpec}
 use Rattle.file_model.specs.FilePaths.{key_parts, physical_path}
 use Rattle.file_model.specs.Joins.{secondary_path}
-use Rattle.logical_model.below.dds_logical.specs.declared.join_views.JoinView.{JoinView}
-use Rattle.logical_model.below.dds_logical.specs.declared.views.LogicalSpec.{LogicalSpec}
-use Rattle.logical_model.below.dds_logical.specs.declared.views.LogicalSpec.TheVariants.{Simple, Multi, Join}
+use Rattle.library_steps.below.dds_logical.specs.declared.join_views.JoinView.{JoinView}
+use Rattle.library_steps.below.dds_logical.specs.declared.views.LogicalSpec.{LogicalSpec}
+use Rattle.library_steps.below.dds_logical.specs.declared.views.LogicalSpec.TheVariants.{Simple, Multi, Join}
 use Rattle.library_steps.specs.Bases.{Bases, FileSpec, PhysicalFile, LogicalFile, base_names}
 use Rattle.library_steps.specs.FilePaths.{secondary_of}
 use Rattle.library_paths.specs.Mapped.{AreSameBases, IsSpecMapped}

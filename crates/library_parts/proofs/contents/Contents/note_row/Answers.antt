@@ -1,5 +1,5 @@
 use Rattle.std.proofs.Common.{ℕ, ◌≡◌, ◌∙◌, is_some, refl, sym, subst, ap}
-use Rattle.logical_model.below.dds_logical.specs.declared.views.LogicalSpec.TheVariants.{Join}
+use Rattle.library_steps.below.dds_logical.specs.declared.views.LogicalSpec.TheVariants.{Join}
 use Rattle.parts_model.specs.Opens.{AllOfNumber}
 use Rattle.parts_model.specs.Table.{orders_at}
 use Rattle.lawful_states.proofs.LawfulLemmas.{AreOne-open_at}

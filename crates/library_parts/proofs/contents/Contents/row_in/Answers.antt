@@ -6,7 +6,7 @@ use Rattle.file_model.specs.FilePaths.{key_parts}
 use Rattle.parts_model.below.job_table.specs.declared.reads.OpenRows.{OpenRows}
 use Rattle.parts_model.specs.Opens.{JoinOrder, rows_in}
 use Rattle.parts_model.proofs.JobTableFindLemmas.{Finds}
-use Rattle.join_records.below.join_rows.specs.declared.rows.Row.{Row}
+use Rattle.parts_model.below.join_rows.specs.declared.rows.Row.{Row}
 use Rattle.key_spec.specs.declared.KeyPart.{KeyPart}
 use Rattle.parts_model.specs.RowReads.{IsAskedOf}
 use Rattle.lawful_states.proofs.NameLemmas.{some-equal}

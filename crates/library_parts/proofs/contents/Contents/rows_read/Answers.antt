@@ -1,5 +1,5 @@
 use Rattle.std.proofs.Common.{Some, subst, sym}
-use Rattle.logical_model.below.dds_logical.specs.declared.views.LogicalSpec.{LogicalSpec}
+use Rattle.library_steps.below.dds_logical.specs.declared.views.LogicalSpec.{LogicalSpec}
 use Rattle.parts_model.specs.Opens.{join_by}
 use Rattle.library_steps.specs.LogicalFiles.{bases_in}
 use Rattle.library_steps.specs.Bases.{LogicalFile}
