@@ -16,6 +16,7 @@ pub use Rattle.library_steps.specs.CreatePhysicalFile
 pub use Rattle.library_steps.specs.DeleteFile
 pub use Rattle.library_steps.specs.EndJob
 pub use Rattle.library_steps.specs.History
+pub use Rattle.library_steps.specs.JournalReads
 pub use Rattle.library_steps.specs.Journaling
 pub use Rattle.library_steps.specs.Locking
 pub use Rattle.library_steps.specs.LogicalFiles
@@ -24,6 +25,7 @@ pub use Rattle.library_steps.specs.Opens
 pub use Rattle.library_steps.specs.Reads
 pub use Rattle.library_steps.specs.Receivers
 pub use Rattle.library_steps.specs.Records
+pub use Rattle.library_steps.specs.Refusals
 pub use Rattle.library_steps.specs.SlotChange
 pub use Rattle.library_steps.specs.State
 pub use Rattle.library_steps.specs.Step
