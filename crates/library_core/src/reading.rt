@@ -61,7 +61,7 @@ pub(crate) fn read_for<S: Store>(
 }
 
 /// Nothing was read.
-fn nothing_read(contents: &Contents) -> Stretch
+pub(crate) fn nothing_read(contents: &Contents) -> Stretch
     ensures { result ≡ entries_from (contents.now.state.gone + 1) [] }
 {
     let (first, _) = contents.bounds();
