@@ -10,7 +10,7 @@ ghost use Rattle.library_core.specs.Cached.{AreCached};
 ghost use Rattle.library_core.specs.Reads.{HasRead};
 
 use crate::kinds;
-use crate::reading::{ReadFault, nothing_read, read_for};
+use crate::reading::{ReadFault, nothing_read, read_stretch};
 use block_cache::BlockCache;
 use commitment_requests::library_parts::Contents;
 use journal_reads::Stretch;
@@ -53,7 +53,6 @@ fn read_asked<S: Store>(
     store: &mut S,
     request: &Request,
 ) -> Result<Stretch, ReadFault>
-    requires reads { reads_journal request.now ≡ true }
     requires kept { (s : State) × IsRemembered S.tells (S.disk store.old) journal.now contents.now.state s }
     requires cached { AreCached S.tells journal.now (S.disk store.old) (unwrap_or cache.old []) }
     ensures read { (s : State) → IsRemembered S.tells (S.disk store.old) journal.now contents.now.state s → HasRead S.tells s result }
@@ -64,7 +63,7 @@ fn read_asked<S: Store>(
 {
     match taken(cache, contents.alloc()) {
         Ok(mut blocks) => {
-            let found = read_for(contents, journal, &mut blocks, store, request);
+            let found = read_stretch(contents, journal, &mut blocks, store, request);
             *cache = Some(blocks);
             found
         }

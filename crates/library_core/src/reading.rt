@@ -5,10 +5,8 @@ ghost use Rattle.store_model.specs.Faults.{Rose};
 ghost use Rattle.record_changes.specs.Told.{IsTold};
 ghost use Rattle.entry_codec.specs.declared.entries.Entry.{Entry};
 ghost use Rattle.store_model.specs.Disk.{Stays};
-ghost use Rattle.library_model.specs.NeedsMemory.{needs_memory};
 ghost use Rattle.library_steps.specs.State.{State, memory_of};
 ghost use Rattle.kept_library.specs.Journaled.{IsRemembered};
-ghost use Rattle.kept_library.specs.Unread.{reads_journal};
 ghost use Rattle.journal_book.specs.Book.{Holds, IsHeld, last_of};
 ghost use Rattle.journal_book.specs.Reads.{between};
 ghost use Rattle.block_cache.specs.Cached.{AreStretches};
@@ -16,7 +14,6 @@ ghost use Rattle.journal_model.specs.Journal.{AreNumbered};
 ghost use Rattle.journal_reads.specs.Stretches.{entries_from};
 ghost use Rattle.library_core.specs.Reads.{HasRead};
 
-use crate::kinds;
 use crate::told::is_told;
 use block_cache::BlockCache;
 use commitment_requests::library_parts::Contents;
@@ -42,31 +39,6 @@ pub(crate) enum ReadFault {
     BlockChanged { sequence: u64 },
 }
 
-/// The stretch of the journal that the request reads; an empty one where it reads none.
-pub(crate) fn read_for<S: Store>(
-    contents: &Contents,
-    journal: &KeptJournal,
-    cache: &mut BlockCache,
-    store: &mut S,
-    request: &Request,
-) -> Result<Stretch, ReadFault>
-    requires kept { (s : State) × IsRemembered S.tells (S.disk store.old) journal.now contents.now.state s }
-    requires cached { S.tells → (all : List Entry) → Holds journal.now all (S.disk store.old) → AreStretches journal.now.first all cache.old }
-    ensures read { (s : State) → IsRemembered S.tells (S.disk store.old) journal.now contents.now.state s → HasRead S.tells s result }
-    ensures stays { Stays (S.disk store.old) (S.disk store.new) }
-    ensures wants { IsErr result → needs_memory request.now ≡ true }
-    ensures cause { IsErrOf result ReadFault.StoreFault → Rose (S.disk store.old).faults (S.disk store.new).faults }
-    ensures unread { (sequence : ℕ) → IsErrOf result (ReadFault.BlockChanged sequence) → reads_journal request.now ≡ true }
-    ensures untold { (sequence : ℕ) → IsErrOf result (ReadFault.BlockChanged sequence) → S.tells → ⊥ }
-    ensures cached { S.tells → (all : List Entry) → Holds journal.now all (S.disk store.new) → AreStretches journal.now.first all cache.new }
-{
-    if kinds::reads_journal(request) {
-        read_stretch(contents, journal, cache, store, request)
-    } else {
-        Ok(nothing_read(contents))
-    }
-}
-
 /// Nothing was read.
 pub(crate) fn nothing_read(contents: &Contents) -> Stretch
     ensures { result ≡ entries_from (contents.now.state.gone + 1) [] }
@@ -76,14 +48,13 @@ pub(crate) fn nothing_read(contents: &Contents) -> Stretch
 }
 
 /// What DSPJRN, APYJRNCHG or RMVJRNCHG reads.
-fn read_stretch<S: Store>(
+pub(crate) fn read_stretch<S: Store>(
     contents: &Contents,
     journal: &KeptJournal,
     cache: &mut BlockCache,
     store: &mut S,
     request: &Request,
 ) -> Result<Stretch, ReadFault>
-    requires reads { reads_journal request.now ≡ true }
     requires kept { (s : State) × IsRemembered S.tells (S.disk store.old) journal.now contents.now.state s }
     requires cached { S.tells → (all : List Entry) → Holds journal.now all (S.disk store.old) → AreStretches journal.now.first all cache.old }
     ensures read { (s : State) → IsRemembered S.tells (S.disk store.old) journal.now contents.now.state s → HasRead S.tells s result }

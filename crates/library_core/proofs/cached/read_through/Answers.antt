@@ -6,9 +6,6 @@ use Rattle.library_core.proofs.ReadLemmas.{nothing-has}
 use Rattle.library_core.proofs.SameLemmas.{reads-need}
 use Rattle.library_core.proofs.cached.read_through.Goals as goal
 
-pub read_asked-requires-clause-reads : goal.read_asked-requires-clause-reads
-read_asked-requires-clause-reads g c = sym c.reads_journal.ensures ∙ c.if-reads_journal.true
-
 pub returns-then-reads_journal-clause-wants : goal.returns-then-reads_journal-clause-wants
 returns-then-reads_journal-clause-wants g c = λ bad.
     let asked : reads_journal c.args.request.now ≡ true = sym c.reads_journal.ensures ∙ c.if-reads_journal.true in
