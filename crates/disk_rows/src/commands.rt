@@ -70,7 +70,7 @@ HISTORY
 END 5
 ";
 
-const JOURNALED_DISPLAY: &str = "\
+pub(crate) const JOURNALED_DISPLAY: &str = "\
 LIBRARY SEQ(3) RCV(1)
 FILE CUST *PHY
 SRC      A          R CUSTR
