@@ -218,8 +218,8 @@ enum Found {
     Never,
 }
 
-/// What came of a command over a store whose byte changed before a call: its status and what it wrote.
-fn found<R: Threads + Wait + Sync + Abort>(
+/// When a command finds that a byte of its store changed before a call.
+fn what_is_found<R: Threads + Wait + Sync + Abort>(
     rt: &R,
     alloc: Global,
     image: &MemoryStore,
@@ -264,7 +264,7 @@ fn changes_are_found<R: Threads + Wait + Sync + Abort>(
     let mut opened: u64 = 0;
     let mut read: u64 = 0;
     for call in 1..MOST_CALLS {
-        match found(rt, alloc, &before.store, call, asked)? {
+        match what_is_found(rt, alloc, &before.store, call, asked)? {
             Found::AtOpening => {
                 assert_eq!(rt; read, 0);
                 opened = opened.saturating_add(1);
