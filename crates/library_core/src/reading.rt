@@ -22,7 +22,7 @@ use journal_book::BookFault;
 use journal_reads::Stretch;
 use journal_requests::display_wanted;
 use kept_journal::KeptJournal;
-use library_model::requests::Request;
+use library_model::requests::{JournaledChanges, Request};
 use range_requests::{RangeWanted, breaks, range_wanted};
 use store_model::Store;
 
@@ -69,12 +69,29 @@ pub(crate) fn read_stretch<S: Store>(
             None => Ok(nothing_read(contents)),
         },
         Request::ApplyChanges(args) | Request::RemoveChanges(args) => {
-            match range_wanted(contents, args) {
+            match wanted_of(contents, request, args) {
                 Some(wanted) => read_range(contents, journal, cache, store, wanted),
                 None => Ok(nothing_read(contents)),
             }
         }
         _ => Ok(nothing_read(contents)),
+    }
+}
+
+/// What a range wants of the journal. RMVJRNCHG names it from its end back.
+fn wanted_of(
+    contents: &Contents,
+    request: &Request,
+    args: &JournaledChanges,
+) -> Option<RangeWanted> {
+    let wanted = range_wanted(contents, args)?;
+    match request {
+        Request::RemoveChanges(_) => Some(RangeWanted {
+            member: wanted.member,
+            from: wanted.to,
+            to: wanted.from,
+        }),
+        _ => Some(wanted),
     }
 }
 
