@@ -1,4 +1,4 @@
-use Rattle.std.proofs.Common.{◌≡◌, ◌∙◌, [], inr, refl, sym, ap, subst, map}
+use Rattle.std.proofs.Common.{◌∙◌, inr, refl, sym, ap, subst, map}
 use Rattle.std.specs.String.{string_bytes}
 use Rattle.library_steps.specs.State.{State, begun}
 use Rattle.front_laws.specs.Replayed.{IsReplayed}
