@@ -1,5 +1,6 @@
 -- What an outcome of a command is, status by status: its cause, what was read, what the jobs did, what was written, and what became of the store. (Our own.)
--- Sources, sinks and stores may tell what they have; what the jobs did is said whether they tell it or not.
+-- Sources, sinks and stores may tell what they have. What each job's script asked, and what each call came to for what it read of the journal, is said whether
+-- they tell it or not; that the calls are a legal history needs a store that tells.
 use Rattle.std.specs.Prelude.{◌≡◌, ◌⊎◌, ℕ, ◌<◌, ◌≤◌, Bool, true, false, IsTrue, Some, List, [], ◌++◌, length, take}
 use Rattle.entry_codec.specs.declared.entries.Entry.{Entry}
 use Rattle.text_lines.specs.Lines.{lines_of}
@@ -11,6 +12,7 @@ use Rattle.script_builder.specs.Least.{least}
 use Rattle.input_reader.specs.Input.{faults_of, input_of}
 use Rattle.job_runner.specs.Asked.{AreAsked}
 use Rattle.job_runner.specs.Ended.{has_ended, has_early_end}
+use Rattle.job_runner.specs.Reading.{RunsReading}
 use Rattle.job_runner.specs.Turns.{AreInTurn}
 use Rattle.listing.specs.HistoryListing.{listing}
 use Rattle.display.specs.Display.{display}
@@ -56,10 +58,11 @@ pub record IsRead (tells : Type 0) (input : List ℕ) (scripts : Scripts) : Type
   pub sound : faults_of (lines_of bytes) ≡ []
   pub says : scripts ≡ input_of (lines_of bytes)
 
--- from a start on, the calls are a legal history of the jobs of these scripts, each of them what its job's script asks; where the words are those of SERIAL,
--- the calls are made in turn by the schedule
-pub record IsRun (words : List (List ℕ)) (scripts : Scripts) (start : State) (calls : List Call) (outcome : Outcome) : Type 0 where
-  pub legal : Runs scripts.sources (Standing (begun start scripts.names)) calls outcome
+-- from a start on, each of the calls is of a job of these scripts, which runs, and comes to what its step comes to for what was read of the journal; where the
+-- store tells its bytes, they are a legal history. Each is what its job's script asks; where the words are those of SERIAL, they are made in turn by the schedule
+pub record IsRun (tells : Type 0) (words : List (List ℕ)) (scripts : Scripts) (start : State) (calls : List Call) (outcome : Outcome) : Type 0 where
+  pub reading : RunsReading tells scripts.sources (Standing (begun start scripts.names)) calls outcome
+  pub legal : tells → Runs scripts.sources (Standing (begun start scripts.names)) calls outcome
   pub asked : AreAsked scripts.scripts [] calls
   pub order : are_serial_words words ≡ true → AreInTurn (length scripts.scripts) scripts.schedule [] calls
 
@@ -104,7 +107,7 @@ pub record RunOver (status : Status) (words : List (List ℕ)) (scripts : Script
   pub starts : IsStart storing before start
   pub calls : List Call
   pub outcome : Outcome
-  pub run : IsRun words scripts start calls outcome
+  pub run : IsRun storing.tells words scripts start calls outcome
   pub timestamps : given calls
   pub kept : IsKeptRun storing before scripts.sources (begun start scripts.names) calls outcome
   pub ran : HasRun status scripts calls outcome writing

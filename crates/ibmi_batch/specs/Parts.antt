@@ -16,6 +16,7 @@ use Rattle.input_scripts.specs.Askable.{is_askable_script}
 use Rattle.input_scripts.specs.Schedules.{NamesJobs}
 use Rattle.input_reader.specs.Input.{faults_of}
 use Rattle.job_runner.specs.Asked.{AreAsked}
+use Rattle.job_runner.specs.Reading.{RunsReading}
 use Rattle.job_runner.specs.Turns.{AreInTurn}
 use Rattle.ibmi_batch.specs.declared.limits.TheConstants.{MOST_INPUT}
 use Rattle.ibmi_batch.specs.declared.status.Status.{Status}
@@ -122,7 +123,8 @@ RunsJobs status words scripts given writing storing =
 pub record SessionRan (tells : Type 0) (first last : Disk) (status : Status) (words : List (List ℕ)) (scripts : Scripts) (from : State) (given : List Call → Type 0) (writing : Writing) : Type 0 where
   pub calls : List Call
   pub outcome : Outcome
-  pub legal : Runs scripts.sources (Standing from) calls outcome
+  pub reading : RunsReading tells scripts.sources (Standing from) calls outcome
+  pub legal : tells → Runs scripts.sources (Standing from) calls outcome
   pub asked : AreAsked scripts.scripts [] calls
   pub order : are_serial_words words ≡ true → AreInTurn (length scripts.scripts) scripts.schedule [] calls
   pub timestamps : given calls
