@@ -1,5 +1,5 @@
 -- The blocks of the journal that a library keeps decoded are stretches of it also behind a call, which leaves its entries or puts others behind them.
-use Rattle.std.proofs.Common.{◌≡◌, ◌⊎◌, inl, inr, ℕ, ◌+◌, ◌<◌, ◌≤◌, Bool, false, List, [], ◌∷◌, ◌++◌, length, append-nil, sym, ◌∙◌, ap, subst, arith}
+use Rattle.std.proofs.Common.{◌≡◌, ◌⊎◌, inl, inr, ℕ, Bool, false, List, [], ◌∷◌, ◌++◌, append-nil, sym, ◌∙◌, ap, subst, arith}
 use Rattle.store_model.specs.Disk.{Disk, Stays}
 use Rattle.entry_codec.specs.declared.entries.Entry.{Entry}
 use Rattle.journal_model.specs.Journal.{AreNumbered}
