@@ -1,4 +1,4 @@
-use Rattle.std.proofs.Common.{List, Err, ap}
+use Rattle.std.proofs.Common.{Err, ap}
 use Rattle.journal_book.specs.declared.fault.BookFault.{BookFault}
 use Rattle.ibmi_batch.proofs.ShownLemmas.{unread-by}
 use Rattle.ibmi_batch.proofs.showing.changed_block.Goals as goal

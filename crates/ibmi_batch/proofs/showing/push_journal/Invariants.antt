@@ -1,4 +1,4 @@
-use Rattle.std.proofs.Common.{◌≡◌, ◌≤◌, ◌-◌, List}
+use Rattle.std.proofs.Common.{◌≤◌, ◌-◌, List}
 use Rattle.store_model.specs.Disk.{Stays}
 use Rattle.entry_codec.specs.declared.entries.Entry.{Entry}
 use Rattle.journal_book.specs.Book.{Holds, last_of}

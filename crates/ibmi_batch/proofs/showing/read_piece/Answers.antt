@@ -1,4 +1,4 @@
-use Rattle.std.proofs.Common.{◌≡◌, ◌+◌, ◌-◌, Err, length, ap, arith, rules}
+use Rattle.std.proofs.Common.{◌≡◌, Err, length, ap, arith, rules}
 use Rattle.journal_book.specs.declared.fault.BookFault.{BookFault}
 use Rattle.ibmi_batch.proofs.ShownLemmas.{as-many, handed-on, unread-by}
 use Rattle.ibmi_batch.proofs.showing.read_piece.Goals as goal
