@@ -1,8 +1,10 @@
 -- What was read of a library's journal and written of its display, and what became of the store meanwhile.
-use Rattle.std.proofs.Common.{◌≡◌, ◌∙◌, inl, inr, ℕ, ◌+◌, ◌-◌, ◌<◌, ◌≤◌, List, [], ◌∷◌, ◌++◌, length, drop, Result, refl, sym, ap, subst, arith}
+use Rattle.std.proofs.Common.{◌≡◌, ◌∙◌, inl, inr, ℕ, ◌+◌, ◌-◌, ◌<◌, ◌≤◌, List, [], ◌∷◌, ◌++◌, length, take, drop, Result, refl, sym, ap, subst, arith}
 use Rattle.std.proofs.Common.{append_assoc, append-nil, length-append}
 use Rattle.std.specs.List.{flat_map}
 use Rattle.std.specs.Result.{IfErr, IsErrAnd}
+use Rattle.std.proofs.Math.Bridge.{le_prop}
+use Rattle.std.proofs.Math.Logic.{∥∥₁_elim}
 use Rattle.std.proofs.lemmas.Grind.{flat_map-append}
 use Rattle.std.proofs.lemmas.List.{take_all}
 use Rattle.std.proofs.lemmas.Result.{err_from_is_err_and}
@@ -10,10 +12,11 @@ use Rattle.store_model.specs.Disk.{Disk, Stays}
 use Rattle.store_model.specs.Faults.{Rose}
 use Rattle.store_model.proofs.Runs.{leaves_stays, leaves_then}
 use Rattle.entry_codec.specs.declared.entries.Entry.{Entry}
-use Rattle.journal_book.specs.Book.{BookState, Holds, last_of}
+use Rattle.journal_book.specs.Book.{BookState, Holds, IsHeld, last_of}
 use Rattle.journal_book.specs.Reads.{between}
 use Rattle.journal_book.specs.declared.fault.BookFault.{BookFault}
 use Rattle.journal_book.specs.declared.fault.BookFault.TheVariants as fault
+use Rattle.block_cache.proofs.Forced.{forced_whole}
 use Rattle.block_cache.proofs.Stretches.{between_none, between_on}
 use Rattle.library_steps.specs.State.{State}
 use Rattle.display.specs.Display.{display_reading, end_line, entry_line}
@@ -71,6 +74,16 @@ between-all first last xs long =
     let enough : length xs ≤ n = omega (arith, long) in
     ap (λ (k : ℕ). take n (drop k xs)) none ∙ ap (λ (l : List Entry). take n l) (drop-none xs) ∙ take_all n xs enough
 
+-- of a store that tells of its bytes as many are read as there are
+pub as-many : (tells : Type 0) (book : BookState) (disk : Disk) (lo hi : ℕ) (found : List Entry) → (tells → IsHeld book disk) → book.first ≤ lo → lo ≤ hi → hi < book.first + book.forced
+    → (tells → (all : List Entry) → Holds book all disk → found ≡ between book.first lo hi all) → tells → length found ≡ hi + 1 - lo
+as-many tells book disk lo hi found held from some forced own told =
+    let long : (all : List Entry) → Holds book all disk → lo + length found ≡ hi + 1 =
+    λ all holds. ap (λ (l : List Entry). lo + length l) (own told all holds) ∙ (forced_whole book all disk holds lo hi from some forced).long in
+    let no_more : lo + length found ≤ hi + 1 = ∥∥₁_elim (held told) le_prop (λ has. let its = long has.0 has.1 in omega (arith, its)) in
+    let no_less : hi + 1 ≤ lo + length found = ∥∥₁_elim (held told) le_prop (λ has. let its = long has.0 has.1 in omega (arith, its)) in
+    omega (arith, no_more, no_less)
+
 module _ (tells : Type 0) (Held : List Entry → Type 0) (first : ℕ) where
   -- before the first entry
   pub read-none : (text : List ℕ) → 1 ≤ first → HasRead tells Held first (first - 1) text text
@@ -82,9 +95,10 @@ module _ (tells : Type 0) (Held : List Entry → Type 0) (first : ℕ) where
   }
 
   -- a piece more
-  pub read-more : (done upto : ℕ) (before text after : List ℕ) (found : List Entry) → HasRead tells Held first done before text → done < upto → length found ≡ upto + 1 - (done + 1)
-      → (tells → (all : List Entry) → Held all → found ≡ between first (done + 1) upto all) → after ≡ text ++ flat_map entry_line found → HasRead tells Held first upto before after
-  read-more done upto before text after found so_far further many own shown =
+  pub read-more : (done upto : ℕ) (before text after : List ℕ) (found slice : List Entry) → HasRead tells Held first done before text → done < upto
+      → length found ≡ upto + 1 - (done + 1) → (tells → (all : List Entry) → Held all → found ≡ between first (done + 1) upto all) → slice ≡ found
+      → after ≡ text ++ flat_map entry_line slice → HasRead tells Held first upto before after
+  read-more done upto before text after found slice so_far further many own same shown =
       let read = so_far.read in
       let begun : first ≤ done + 1 = omega (arith, so_far.many) in
       record {
@@ -94,7 +108,8 @@ module _ (tells : Type 0) (Held : List Entry → Type 0) (first : ℕ) where
             ap (λ (l : List Entry). l ++ found) (so_far.own told all held) ∙ ap (λ (l : List Entry). between first first done all ++ l) (own told all held)
             ∙ between_on first first done upto all (omega arith) begun (omega (arith, further));
         shown =
-            shown ∙ ap (λ (t : List ℕ). t ++ flat_map entry_line found) so_far.shown ∙ append_assoc before (flat_map entry_line read) (flat_map entry_line found)
+            shown ∙ ap (λ (l : List Entry). text ++ flat_map entry_line l) same ∙ ap (λ (t : List ℕ). t ++ flat_map entry_line found) so_far.shown
+            ∙ append_assoc before (flat_map entry_line read) (flat_map entry_line found)
             ∙ ap (λ (t : List ℕ). before ++ t) (sym (flat_map-append entry_line read found));
       }
 
@@ -119,8 +134,9 @@ pub last-seen : (tells : Type 0) (disk : Disk) (book : BookState) (m s : State) 
 last-seen tells disk book m s seen = omega (arith, seen.next)
 
 -- what is so of the text is so of the display
-pub with-text : (tells : Type 0) (shown : State) (text : List ℕ) (P : List ℕ → Type 0) → IsDisplay tells shown (λ whole. text ≡ whole) → P text → IsDisplay tells shown P
-with-text tells shown text P is holds = record { read = is.read; many = is.many; own = is.own; is_text = subst P is.is_text holds }
+pub with-text : (tells : Type 0) (shown : State) (text slice : List ℕ) (P : List ℕ → Type 0) → IsDisplay tells shown (λ whole. text ≡ whole) → slice ≡ text → P slice
+    → IsDisplay tells shown P
+with-text tells shown text slice P is same holds = record { read = is.read; many = is.many; own = is.own; is_text = subst P (same ∙ is.is_text) holds }
 
 -- where the journal wasn't read nothing was written
 pub displays-unread : (why : BookFault) (tells : Type 0) (shown : State) (writing : Writing) (rose : Type 0) → NothingWritten writing → IsUnreadBy why tells rose

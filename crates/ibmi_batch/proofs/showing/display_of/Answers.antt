@@ -1,8 +1,6 @@
 use Rattle.std.proofs.Common.{◌∙◌}
 use Rattle.display.proofs.DisplayLemmas.{display-joined}
-use Rattle.journal_book.specs.declared.fault.BookFault.TheVariants as fault
-use Rattle.ibmi_batch.proofs.ShownLemmas.{handed-on, is-display, last-seen}
-use Rattle.ibmi_batch.specs.Seen.{IsUnreadBy}
+use Rattle.ibmi_batch.proofs.ShownLemmas.{is-display, last-seen}
 use Rattle.ibmi_batch.proofs.showing.display_of.Goals as goal
 
 pub returns-clause-shown : goal.returns-clause-shown

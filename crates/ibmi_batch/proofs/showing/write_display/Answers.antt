@@ -8,8 +8,9 @@ returns-in-Err-clause-written g c = λ s seen.
 
 pub returns-in-Ok-write_all-clause-written : goal.returns-in-Ok-write_all-clause-written
 returns-in-Ok-write_all-clause-written g c = λ s seen.
-    with-text _ s _ _ (c.in-Ok.ensures.shown s seen) (rw c.as_slice.ensures.value c.in-Ok-write_all.ensures.taken)
+    with-text _ s _ _ _ (c.in-Ok.ensures.shown s seen) c.as_slice.ensures.value c.in-Ok-write_all.ensures.taken
 
-pub returns-in-Err-write_all-clause-written : goal.returns-in-Err-write_all-clause-written
-returns-in-Err-write_all-clause-written g c = λ s seen.
-    with-text _ s _ _ (c.in-Ok.ensures.shown s seen) (rw c.as_slice.ensures.value (c.in-Err-write_all.ensures.cause, λ tells. let part = c.in-Err-write_all.ensures.prefix tells in (part.0, part.2)))
+pub returns-clause-written : goal.returns-clause-written
+returns-clause-written g c = λ s seen.
+    with-text _ s _ _ _ (c.in-Ok.ensures.shown s seen) c.as_slice.ensures.value
+    (c.in-Err-write_all.ensures.cause refl, λ told. let part = c.in-Err-write_all.ensures.prefix told in (part.0, part.2))
