@@ -1,14 +1,13 @@
 -- How jobs begin in a library, and that each of them may make a call then and after each call that ends no job.
 use Rattle.std.proofs.Common.{◌≡◌, ◌≤◌, ◌<◌, ℕ, zero, suc, ◌+◌, ◌-◌, true, false, IsTrue, List, [], ◌∷◌, ◌++◌, length, map, slice_get, refl, sym, ◌∙◌, ap, subst, arith, length-append, Result, Ok, Err, OnOk, OnErr}
-use Rattle.std.proofs.lemmas.List.{append-nil, append_assoc, length-map, map-append}
+use Rattle.std.proofs.lemmas.List.{length-map, map-append}
 use Rattle.std.proofs.lemmas.Bool.Decides.{nat_tests}
 use Rattle.library_model.specs.declared.requests.Request.{Request}
 use Rattle.library_model.specs.declared.sources.NamedSource.{NamedSource}
 use Rattle.library_model.specs.Ending.{is_end_job}
-use Rattle.library_steps.specs.State.{State, JobState, job_at, new_job, begun}
+use Rattle.library_steps.specs.State.{State, JobState, job_at, new_job}
 use Rattle.library_steps.specs.History.{is_running}
 use Rattle.deposited_entries.specs.Deposits.{AreShort}
-use Rattle.joint_state.specs.Sound.{IsSound}
 use Rattle.kept_library.specs.Parts.{LibraryOver}
 use Rattle.library_core.specs.Running.{runs_after}
 use Rattle.kept_library.specs.Stands.{IsReady}
@@ -20,51 +19,33 @@ pub AreReady-each : {S : Type 0} (count job : ℕ) (library : LibraryOver S) →
 AreReady-each count job library ready first last = record {
   alive = ready.alive;
   running = ready.running job first last;
-  sound = ready.sound;
 }
 
 -- after a call that ends no job each of them may again
 pub AreReady-on : {S : Type 0} (count job : ℕ) (r : Request) (old new : LibraryOver S) → AreReady count old → is_end_job r ≡ false → new.failed ≡ false
-    → ((other : ℕ) → is_running (job_at other new.state.jobs) ≡ runs_after job r old.state.jobs other) → IsSound new.state → AreReady count new
-AreReady-on count job r old new ready goes_on alive runs sound = record {
+    → ((other : ℕ) → is_running (job_at other new.state.jobs) ≡ runs_after job r old.state.jobs other) → AreReady count new
+AreReady-on count job r old new ready goes_on alive runs = record {
   alive = alive;
   running = λ other first last. rw (runs other, runs-on job r old.state.jobs other goes_on) (ready.running other first last);
-  sound = sound;
 }
 
--- none has begun in a sound library that has no jobs
-pub HasBegun-none : {S : Type 0} (library : LibraryOver S) → library.failed ≡ false → IsSound library.state → library.state.jobs ≡ [] → HasBegun 0 library
-HasBegun-none library alive sound none = record {
-  start = library.state;
-  sound = sound;
-  none = none;
-  names = [];
-  many = refl;
-  alive = alive;
-  state = sym (ap (λ (jobs : List JobState). record library.state { jobs = jobs }) (append-nil library.state.jobs));
-}
+-- none has begun in a library that has no jobs
+pub HasBegun-none : {S : Type 0} (library : LibraryOver S) → library.failed ≡ false → library.state.jobs ≡ [] → HasBegun 0 library
+HasBegun-none library alive none = record { names = []; many = refl; alive = alive; jobs = none }
 
 -- one more has begun
 pub HasBegun-more : {S : Type 0} (count : ℕ) (name : List ℕ) (old new : LibraryOver S) → HasBegun count old → new.state ≡ record old.state { jobs = old.state.jobs ++ new_job name ∷ [] }
     → new.failed ≡ old.failed → HasBegun (count + 1) new
-HasBegun-more count name old new before begins same =
-    let jobs : map new_job (before.names ++ name ∷ []) ≡ map new_job before.names ++ new_job name ∷ [] = map-append new_job before.names (name ∷ []) in
-    let order : before.start.jobs ++ map new_job (before.names ++ name ∷ []) ≡ (before.start.jobs ++ map new_job before.names) ++ new_job name ∷ [] =
-    ap (λ (js : List JobState). before.start.jobs ++ js) jobs ∙ sym (append_assoc before.start.jobs (map new_job before.names) (new_job name ∷ [])) in
-    record {
-      start = before.start;
-      sound = before.sound;
-      none = before.none;
-      names = before.names ++ name ∷ [];
-      many = length-append before.names (name ∷ []) ∙ ap (λ n. n + 1) before.many;
-      alive = same ∙ before.alive;
-      state = begins ∙ ap (λ (s : State). record s { jobs = s.jobs ++ new_job name ∷ [] }) before.state ∙ sym (ap (λ (js : List JobState). record before.start { jobs = js }) order);
-    }
+HasBegun-more count name old new before begins same = record {
+  names = before.names ++ name ∷ [];
+  many = length-append before.names (name ∷ []) ∙ ap (λ n. n + 1) before.many;
+  alive = same ∙ before.alive;
+  jobs = ap (λ (s : State). s.jobs) begins ∙ ap (λ (js : List JobState). js ++ new_job name ∷ []) before.jobs ∙ sym (map-append new_job before.names (name ∷ []));
+}
 
 -- how many have begun
 pub HasBegun-length : {S : Type 0} (count : ℕ) (library : LibraryOver S) → HasBegun count library → length library.state.jobs ≡ count
-HasBegun-length count library before =
-    ap (λ (s : State). length s.jobs) before.state ∙ ap (λ (js : List JobState). length (js ++ map new_job before.names)) before.none ∙ length-map before.names new_job ∙ before.many
+HasBegun-length count library before = ap (λ (js : List JobState). length js) before.jobs ∙ length-map before.names new_job ∙ before.many
 
 -- a job that has begun and done nothing runs
 begun-runs : (names : List (List ℕ)) (at : ℕ) → at < length names → is_running (slice_get (map new_job names) at) ≡ true
@@ -76,13 +57,10 @@ job-runs : (names : List (List ℕ)) (job : ℕ) → 1 ≤ job → job ≤ lengt
 job-runs names job first last = let here = begun-runs names (job - 1) (omega (arith, first, last)) in grind (arith, nat_tests, here, first)
 
 -- each that has begun may make a call
-pub AreReady-begun : {S : Type 0} (count : ℕ) (library : LibraryOver S) → ((s : State) (names : List (List ℕ)) → IsSound s → s.jobs ≡ [] → IsSound (begun s names)) → HasBegun count library
-    → AreReady count library
-AreReady-begun count library sound before = record {
+pub AreReady-begun : {S : Type 0} (count : ℕ) (library : LibraryOver S) → HasBegun count library → AreReady count library
+AreReady-begun count library before = record {
   alive = before.alive;
-  running = λ job first last. subst (λ (s : State). IsTrue (is_running (job_at job s.jobs))) (sym before.state)
-      (subst (λ (js : List JobState). IsTrue (is_running (job_at job (js ++ map new_job before.names)))) (sym before.none) (job-runs before.names job first (omega (arith, last, before.many))));
-  sound = subst IsSound (sym before.state) (sound before.start before.names before.sound before.none);
+  running = λ job first last. subst (λ (js : List JobState). IsTrue (is_running (job_at job js))) (sym before.jobs) (job-runs before.names job first (omega (arith, last, before.many)));
 }
 
 -- ---- sources

@@ -4,7 +4,7 @@ use crate::workloads::Workload;
 
 /// How the program is run.
 pub(crate) const USAGE: &str =
-    "usage: bench [--times] N [write|view|views|read|chain|update|delete|alone|crowd], N from 1 to 1000000";
+    "usage: bench [--times] N [write|view|views|read|chain|update|delete|alone|crowd|display], N from 1 to 1000000";
 
 /// What is asked of a run.
 #[derive(Clone, Copy)]

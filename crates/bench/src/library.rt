@@ -1,5 +1,6 @@
 //! The library that is measured, with the jobs that ask it.
 ghost use Rattle.std.specs.Prelude.{◌≡◌, ◌≤◌, IfOk, OnOk};
+ghost use Rattle.deposited_entries.specs.Deposits.{AreShort};
 ghost use Rattle.bench.specs.Ready.{HasBegun};
 
 use crate::requests::{Asker, PlainRequest};
@@ -9,7 +10,6 @@ use library_core::library::{Library, call};
 use library_model::replies::Reply;
 use library_model::sources::Sources;
 use opened_library::open_library;
-use run_laws::jobs_begin_in_a_sound_library;
 use std::alloc::{AllocError, Global};
 use std::marker::Model;
 use store_model::MemoryStore;
@@ -36,10 +36,24 @@ impl Model for Bench {
 impl Bench {
     /// A library with nothing in it but so many jobs.
     pub(crate) fn begin(asker: &Asker, jobs: u32) -> Result<Bench, AllocError> {
-        // A sound library in which its first jobs begin stays sound.
-        jobs_begin_in_a_sound_library();
         let sources = asker.sources()?;
-        let mut library = made_library(asker.alloc())?;
+        let mut store = MemoryStore::new(asker.alloc());
+        if format_library(asker.alloc(), &mut store).is_err() {
+            return Err(AllocError);
+        }
+        Bench::over(asker, store, sources, jobs)
+    }
+
+    /// The library that a store keeps, with so many jobs begun.
+    fn over(
+        asker: &Asker,
+        store: MemoryStore,
+        sources: Sources,
+        jobs: u32,
+    ) -> Result<Bench, AllocError>
+        requires { AreShort sources }
+    {
+        let mut library = opened(asker.alloc(), store)?;
         match begin_jobs(&mut library, asker.job(), jobs) {
             Ok(()) => Ok(Bench {
                 library,
@@ -51,6 +65,16 @@ impl Bench {
                 Err(error)
             }
         }
+    }
+
+    /// Gives the library up, and opens it again from its store with as many jobs: of its journal nothing is in memory then.
+    pub(crate) fn open_again(self, asker: &Asker) -> Result<Bench, AllocError> {
+        let Bench {
+            library,
+            sources,
+            jobs,
+        } = self;
+        Bench::over(asker, library.into_store(), sources, jobs)
     }
 
     /// Makes a call of a job, and answers whether it was done.
@@ -95,14 +119,10 @@ impl Bench {
     }
 }
 
-/// A library with nothing in it, over a store in memory.
-fn made_library(alloc: Global) -> Result<Library<MemoryStore>, AllocError>
+/// The library that a store keeps.
+fn opened(alloc: Global, store: MemoryStore) -> Result<Library<MemoryStore>, AllocError>
     ensures { IfOk result (λ library. HasBegun 0 library) }
 {
-    let mut store = MemoryStore::new(alloc);
-    if format_library(alloc, &mut store).is_err() {
-        return Err(AllocError);
-    }
     match open_library(alloc, store) {
         Ok(library) => Ok(Library::of(library)),
         Err(_) => Err(AllocError),
@@ -124,6 +144,6 @@ fn begin_jobs(library: &mut Library<MemoryStore>, name: &Name, jobs: u32) -> Res
 fn is_done(reply: &Reply) -> bool {
     matches!(
         reply,
-        Reply::Done | Reply::Record(_) | Reply::Added { rrn: _ }
+        Reply::Done | Reply::Record(_) | Reply::Added { rrn: _ } | Reply::Entries(_)
     )
 }

@@ -10,8 +10,8 @@ use field_types::names::Name;
 use field_types::texts::{SourceText, Text};
 use field_types::values::{Dec, Value};
 use library_model::requests::{
-    AccessPath, ChainRecord, ChainTo, CreateLogicalFile, CreatePhysicalFile, Limit, LockOption,
-    OpenFile, OpenName, OpenOption, ReadRecord, Request, SetPosition, StartCommitment,
+    AccessPath, ChainRecord, ChainTo, CreateLogicalFile, CreatePhysicalFile, DisplayJournal, Limit,
+    LockOption, OpenFile, OpenName, OpenOption, ReadRecord, Request, SetPosition, StartCommitment,
     StartJournaling, UpdateRecord, WriteRecord,
 };
 use library_model::sources::{NamedSource, Sources};
@@ -283,6 +283,13 @@ impl Asker {
                 values,
             }),
         })
+    }
+
+    /// DSPJRN: shows the journal's entries from a sequence to another.
+    pub(crate) fn display(&self, from: u64, to: u64) -> PlainRequest {
+        PlainRequest {
+            request: Request::DisplayJournal(DisplayJournal { from, to }),
+        }
     }
 
     /// DELETE: deletes the record that was read for update.

@@ -27,6 +27,11 @@ impl RecordCount {
         RecordCount::new(self.number * 2)
     }
 
+    /// How many whole hundreds they are, or one.
+    pub(crate) fn hundreds(self) -> RecordCount {
+        RecordCount::new((self.number / 100).max(1)).unwrap_or(self)
+    }
+
     /// The number.
     pub(crate) fn number(self) -> u32
         ensures { result ≤ MOST_SLOTS }

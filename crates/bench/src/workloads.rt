@@ -37,9 +37,11 @@ pub(crate) enum Workload {
     Alone,
     /// The same, beside as many jobs as a run may have, each with as many opens as it may have, which hold locks on the upper half.
     Crowd,
+    /// DSPJRN of a hundred entries at a time of a journaled file's adds, in a library that was opened again.
+    Display,
 }
 
-const WORKLOADS: [Workload; 9] = [
+const WORKLOADS: [Workload; 10] = [
     Workload::Write,
     Workload::View,
     Workload::Views,
@@ -49,6 +51,7 @@ const WORKLOADS: [Workload; 9] = [
     Workload::Delete,
     Workload::Alone,
     Workload::Crowd,
+    Workload::Display,
 ];
 
 impl Workload {
@@ -64,6 +67,7 @@ impl Workload {
             Workload::Delete => "delete",
             Workload::Alone => "alone",
             Workload::Crowd => "crowd",
+            Workload::Display => "display",
         }
     }
 
@@ -78,7 +82,8 @@ impl Workload {
             | Workload::Chain
             | Workload::Update
             | Workload::Delete
-            | Workload::Alone => 1,
+            | Workload::Alone
+            | Workload::Display => 1,
         }
     }
 
@@ -119,14 +124,28 @@ fn run_one<R: AllocGlobal + Clock + Print>(
     workload: Workload,
 ) -> Result<()> {
     let asker = Asker::new(rt.alloc());
-    let mut bench = Bench::begin(&asker, workload.jobs())?;
+    let mut bench = begin(&asker, arguments.records, workload)?;
     let measured = measure(rt, &asker, &mut bench, arguments.records, workload);
     bench.end();
     print(rt, arguments, workload, measured?)?;
     Ok(())
 }
 
-/// Makes the calls that go before a workload, and then its own, which are measured.
+/// The library that a workload wants, behind the calls that go before it.
+fn begin(asker: &Asker, records: RecordCount, workload: Workload) -> Result<Bench> {
+    let mut bench = Bench::begin(asker, workload.jobs())?;
+    if let Err(error) = prepare(asker, &mut bench, records, workload) {
+        bench.end();
+        return Err(error);
+    }
+    if workload == Workload::Display {
+        Ok(bench.open_again(asker)?)
+    } else {
+        Ok(bench)
+    }
+}
+
+/// Makes the calls of a workload, which are measured.
 fn measure<R: Clock>(
     rt: &R,
     asker: &Asker,
@@ -134,7 +153,6 @@ fn measure<R: Clock>(
     records: RecordCount,
     workload: Workload,
 ) -> Result<Measured> {
-    prepare(asker, bench, records, workload)?;
     let requests = requests_of(asker, records, workload)?;
     let start = Instant::now(rt)?;
     ask(bench, MEASURED, requests.as_slice())?;
@@ -167,6 +185,10 @@ fn prepare(
             fill_journaled(asker, bench, records)?;
             ask(bench, MEASURED, further_opens(asker)?.as_slice())?;
             gather(asker, bench, records)
+        }
+        Workload::Display => {
+            ask(bench, MEASURED, &[asker.start_journaling()])?;
+            fill(asker, bench, records)
         }
     }
 }
@@ -218,6 +240,7 @@ fn requests_of(
         Workload::Chain | Workload::Alone | Workload::Crowd => chains(asker, records),
         Workload::Update => updates(asker, records),
         Workload::Delete => deletes(asker, records),
+        Workload::Display => displays(asker, records),
     }
 }
 
@@ -260,6 +283,17 @@ fn deletes(asker: &Asker, records: RecordCount) -> Result<Vec<PlainRequest>, All
     for key in &SOUGHT.keys(asker.alloc(), records)? {
         requests.push(asker.chain(u64::from(*key))?)?;
         requests.push(asker.delete())?;
+    }
+    Ok(requests)
+}
+
+/// Each hundred of the journal's entries at a time, in an order that isn't theirs. Two entries stand before those of the records.
+fn displays(asker: &Asker, records: RecordCount) -> Result<Vec<PlainRequest>, AllocError> {
+    let mut requests = Vec::new(asker.alloc());
+    let last = u64::from(records.number()) + 2;
+    for place in &SOUGHT.keys(asker.alloc(), records.hundreds())? {
+        let from = u64::from(*place) * 100 + 1;
+        requests.push(asker.display(from, (from + 99).min(last)))?;
     }
     Ok(requests)
 }

@@ -70,7 +70,7 @@ HISTORY
 END 5
 ";
 
-const JOURNALED_DISPLAY: &str = "\
+pub(crate) const JOURNALED_DISPLAY: &str = "\
 LIBRARY SEQ(3) RCV(1)
 FILE CUST *PHY
 SRC      A          R CUSTR
@@ -119,6 +119,25 @@ ENT 5 J PR JOB(J2) AT(2) GRP(0) MBR(0) RRN(0) RCV(1)
 END
 ";
 
+/// The entries stand in two receivers.
+const ACROSS: &str = "\
+//JOB J3
+DSPJRN FROMENT(1) TOENT(5)
+//END
+";
+
+const ACROSS_LISTING: &str = "\
+HISTORY
+1 J3 0 DSPJRN FROMENT(1) TOENT(5) => OK \
+/ ENT 1 D CT JOB(J1) AT(0) GRP(0) MBR(1) RRN(0) KIND(*PHY) NAME(CUST) LEN(60) \
+/ ENT 2 F JM JOB(J1) AT(1) GRP(0) MBR(1) RRN(0) IMAGES(*AFTER) SLOTS(0) \
+/ ENT 3 R PT JOB(J1) AT(3) GRP(0) MBR(1) RRN(1) IMG(1 'ABC  ') \
+/ ENT 4 J NR JOB(J2) AT(2) GRP(0) MBR(0) RRN(0) RCV(2) \
+/ ENT 5 J PR JOB(J2) AT(2) GRP(0) MBR(0) RRN(0) RCV(1)
+2 J3 1 ENDJOB REASON(*NORMAL) LINE(0) => OK
+END 2
+";
+
 /// The journal ends before the entry that is asked for.
 const ASKED: &str = "\
 //JOB J2
@@ -134,7 +153,7 @@ END 2
 ";
 
 /// Three records, of a member that has both images journaled.
-const SETUP: &str = "\
+pub(crate) const SETUP: &str = "\
 //DDS CUST
      A          R CUSTR
      A            NAME           5A
@@ -232,7 +251,38 @@ ENT 21 C EC JOB(J1) AT(12) GRP(0) MBR(0) RRN(0)
 END
 ";
 
-const ROWS: [&[Step]; 5] = [
+/// Entries of an open commit cycle, which wait to be written, are shown behind those that stand on the disk.
+const WAITING: &str = "\
+//JOB J1
+STRCMTCTL LCKLVL(*CHG)
+OPNDBF FILE(CUST) OPTION(*ALL) COMMIT(*YES)
+WRITE OPNID(CUST) VAL('D')
+DSPJRN FROMENT(5) TOENT(8)
+ROLLBACK
+DSPJRN FROMENT(8) TOENT(10)
+//END
+";
+
+const WAITING_LISTING: &str = "\
+HISTORY
+1 J1 0 STRCMTCTL LCKLVL(*CHG) => OK
+2 J1 1 OPNDBF FILE(CUST) OPTION(*ALL) MBR(CUST) OPNID(CUST) COMMIT(*YES) ACCPTH(*FILE) => OK
+3 J1 2 WRITE OPNID(CUST) FMT(*FILE) RRN(*END) VAL('D') => OK RRN(4)
+4 J1 3 DSPJRN FROMENT(5) TOENT(8) => OK \
+/ ENT 5 R PT JOB(J1) AT(5) GRP(0) MBR(1) RRN(3) IMG(1 'C    ') \
+/ ENT 6 C BC JOB(J1) AT(0) GRP(0) MBR(0) RRN(0) LVL(*CHG) \
+/ ENT 7 C SC JOB(J1) AT(2) GRP(7) MBR(0) RRN(0) \
+/ ENT 8 R PT JOB(J1) AT(2) GRP(7) MBR(1) RRN(4) IMG(1 'D    ')
+5 J1 4 ROLLBACK => OK
+6 J1 5 DSPJRN FROMENT(8) TOENT(10) => OK \
+/ ENT 8 R PT JOB(J1) AT(2) GRP(7) MBR(1) RRN(4) IMG(1 'D    ') \
+/ ENT 9 R DR JOB(J1) AT(4) GRP(7) MBR(1) RRN(4) IMG(1 'D    ') \
+/ ENT 10 C RB JOB(J1) AT(4) GRP(7) MBR(0) RRN(0)
+7 J1 6 ENDJOB REASON(*NORMAL) LINE(0) => OK
+END 7
+";
+
+const ROWS: [&[Step]; 6] = [
     &[
         ("INZ", "", 0, ""),
         ("DSP", "", 0, EMPTY_DISPLAY),
@@ -250,6 +300,7 @@ const ROWS: [&[Step]; 5] = [
         ("DSP", "", 0, JOURNALED_DISPLAY),
         ("RUN", ASKED, 10, ASKED_LISTING),
         ("RUN", SECOND, 0, SECOND_LISTING),
+        ("RUN", ACROSS, 0, ACROSS_LISTING),
         ("DSP", "", 0, SECOND_DISPLAY),
     ],
     &[
@@ -257,6 +308,11 @@ const ROWS: [&[Step]; 5] = [
         ("RUN", SETUP, 0, SETUP_LISTING),
         ("SERIAL", CYCLE, 0, CYCLE_LISTING),
         ("DSP", "", 0, CYCLE_DISPLAY),
+    ],
+    &[
+        ("INZ", "", 0, ""),
+        ("RUN", SETUP, 0, SETUP_LISTING),
+        ("RUN", WAITING, 0, WAITING_LISTING),
     ],
     &[
         ("RUN", FIRST, 5, ""),

@@ -1,7 +1,9 @@
 //! Runs with a fault at each call of their store in turn, and restarts that are stopped at each of theirs.
-use crate::runs::run;
+use crate::commands::SETUP;
+use crate::runs::{made, run};
 use crate::stops::{
-    MOST_CALLS, ONE_JOB, Run, TWO_JOBS, acknowledged, copied, fresh, image_holds, list_of, stopped,
+    ABC, ABCD, MOST_CALLS, ONE_JOB, READING, Run, TWO_JOBS, acknowledged, copied, fresh,
+    image_holds, list_of, stopped,
 };
 use std::alloc::{AllocError, Global};
 use std::process::Abort;
@@ -67,6 +69,76 @@ fn two_jobs_survive_each_fault(rt: HostRuntime) -> Result<(), Fail> {
 #[test]
 fn one_job_survives_each_fault(rt: HostRuntime) -> Result<(), Fail> {
     faults_are_survived(&rt, rt.alloc(), ONE_JOB)?;
+    Ok(())
+}
+
+#[test]
+fn reads_of_the_journal_survive_each_fault(rt: HostRuntime) -> Result<(), Fail> {
+    faults_are_survived(&rt, rt.alloc(), READING)?;
+    Ok(())
+}
+
+/// Five calls over the library of a run before: the same entries are read twice.
+const TWICE: Run = Run {
+    command: "RUN",
+    input: "\
+//JOB J2
+OPNDBF FILE(CUST) OPTION(*ALL)
+WRITE OPNID(CUST) VAL('D')
+DSPJRN FROMENT(1) TOENT(6)
+DSPJRN FROMENT(1) TOENT(6)
+//END
+",
+    lists: &[ABC, ABC, ABCD, ABCD, ABCD, ABCD],
+};
+
+/// What is written where the first read finds the store at fault.
+const UNREAD: &str = "\
+HISTORY
+1 J2 0 OPNDBF FILE(CUST) OPTION(*ALL) MBR(CUST) OPNID(CUST) COMMIT(*NO) ACCPTH(*FILE) => OK
+2 J2 1 WRITE OPNID(CUST) FMT(*FILE) RRN(*END) VAL('D') => OK RRN(4)
+3 J2 2 DSPJRN FROMENT(1) TOENT(6) => StoreFault
+";
+
+/// A call of the store fails, and the library opens again with all that was acknowledged; tells how many calls were, where one found the fault.
+fn acknowledged_before<R: Threads + Wait + Sync + Abort>(
+    rt: &R,
+    alloc: Global,
+    image: &MemoryStore,
+    call: u64,
+) -> Result<Option<usize>, AllocError> {
+    let mut store = copied(alloc, image)?;
+    store.fail_at(call);
+    let ran = run(rt, alloc, store, TWICE.command, TWICE.input)?;
+    if ran.status == 0 {
+        return Ok(None);
+    }
+    assert_eq!(rt; ran.status, 7, "fault at {call}");
+    assert!(rt; ends_at_the_fault(ran.text()), "fault at {call}");
+    let calls = acknowledged(ran.text());
+    if calls == 2 {
+        assert!(rt; ran.text().starts_with(UNREAD), "fault at {call}");
+    }
+    image_holds(rt, alloc, ran.store, TWICE, calls, call)?;
+    Ok(Some(calls))
+}
+
+/// The store is asked for the entries once: their blocks are kept then.
+#[test]
+fn a_fault_at_a_read_of_the_journal_is_told(rt: HostRuntime) -> Result<(), Fail> {
+    let before = run(&rt, rt.alloc(), made(&rt, rt.alloc())?, "RUN", SETUP)?;
+    let mut at_the_first: u64 = 0;
+    let mut at_the_second: u64 = 0;
+    for call in 1..MOST_CALLS {
+        match acknowledged_before(&rt, rt.alloc(), &before.store, call)? {
+            None => break,
+            Some(2) => at_the_first = at_the_first.saturating_add(1),
+            Some(3) => at_the_second = at_the_second.saturating_add(1),
+            Some(_) => {}
+        }
+    }
+    assert!(&rt; at_the_first > 0);
+    assert_eq!(&rt; at_the_second, 0);
     Ok(())
 }
 

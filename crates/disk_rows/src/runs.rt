@@ -4,7 +4,7 @@ use ibmi_batch::status::Status;
 use std::alloc::{AllocError, Global};
 use std::sync::Wait;
 use std::thread::Threads;
-use store_model::{MemorySink, MemorySource, MemoryStore, OpenGate, StepClock};
+use store_model::{MemorySink, MemorySource, MemoryStore, OpenGate, StepClock, Store};
 
 /// What came of a command: its status, where the store is damaged, what it wrote, and the store.
 #[derive(Drop)]
@@ -31,6 +31,23 @@ pub(crate) fn run<R: Threads + Wait + Sync>(
     command: &str,
     input: &str,
 ) -> Result<Outcome, AllocError> {
+    let (status, written, store) = run_over(rt, alloc, store, command, input)?;
+    Ok(Outcome {
+        status: status.number(),
+        damage: damage_of(status),
+        written,
+        store,
+    })
+}
+
+/// Does a command with an input over any store; its status, what it wrote, and the store.
+pub(crate) fn run_over<R: Threads + Wait + Sync, S: Store + Send + Drop>(
+    rt: &R,
+    alloc: Global,
+    store: S,
+    command: &str,
+    input: &str,
+) -> Result<(Status, MemorySink, S), AllocError> {
     let words = words_of(alloc, &[command, "lib"])?;
     let mut input = MemorySource::over(alloc, input.as_bytes())?;
     let mut written = MemorySink::new(alloc);
@@ -44,16 +61,11 @@ pub(crate) fn run<R: Threads + Wait + Sync>(
         StepClock::new(),
         &OpenGate,
     );
-    Ok(Outcome {
-        status: status.number(),
-        damage: damage_of(status),
-        written,
-        store,
-    })
+    Ok((status, written, store))
 }
 
 /// The area and the place at which a status says that the store is damaged.
-fn damage_of(status: Status) -> Option<(u32, u64)> {
+pub(crate) fn damage_of(status: Status) -> Option<(u32, u64)> {
     match status {
         Status::Damaged { area, at } => Some((area, at)),
         _ => None,

@@ -24,7 +24,7 @@ const A: &str = "FILE CUST *PHY\nRCD 1 'A    '\n";
 
 const AB: &str = "FILE CUST *PHY\nRCD 1 'A    '\nRCD 2 'B    '\n";
 
-const ABC: &str = "FILE CUST *PHY\nRCD 1 'A    '\nRCD 2 'B    '\nRCD 3 'C    '\n";
+pub(crate) const ABC: &str = "FILE CUST *PHY\nRCD 1 'A    '\nRCD 2 'B    '\nRCD 3 'C    '\n";
 
 const ABCX: &str = "\
 FILE CUST *PHY
@@ -76,6 +76,14 @@ WRITE OPNID(CUST) VAL('X')
         COMMITTED, COMMITTED, COMMITTED, COMMITTED, COMMITTED,
     ],
 };
+
+pub(crate) const ABCD: &str = "\
+FILE CUST *PHY
+RCD 1 'A    '
+RCD 2 'B    '
+RCD 3 'C    '
+RCD 4 'D    '
+";
 
 const ABCDE: &str = "\
 FILE CUST *PHY
@@ -131,6 +139,29 @@ WRITE OPNID(CUST) VAL('G')
         "", EMPTY, EMPTY, EMPTY, A, AB, ABC, ABC, ABC, ABC, ABC, ABC, ABCDE, ABCDE, ABCDE, ABCDE,
         ABCDE, ABCDE, ABCDE, ABCDEG, ABCDEG,
     ],
+};
+
+/// Eleven calls of one job, which read entries of the journal in the run that deposited them: the second record is taken out and put back.
+pub(crate) const READING: Run = Run {
+    command: "RUN",
+    input: "\
+//DDS CUST
+     A          R CUSTR
+     A            NAME           5A
+//JOB J1
+CRTPF FILE(CUST) SRC(CUST)
+STRJRNPF FILE(CUST) IMAGES(*BOTH)
+OPNDBF FILE(CUST) OPTION(*ALL)
+WRITE OPNID(CUST) VAL('A')
+WRITE OPNID(CUST) VAL('B')
+DSPJRN FROMENT(1) TOENT(4)
+CLOF OPNID(CUST)
+RMVJRNCHG FILE(CUST) TOENT(4)
+DSPJRN FROMENT(3) TOENT(6)
+APYJRNCHG FILE(CUST) FROMENT(4) TOENT(4)
+//END
+",
+    lists: &["", EMPTY, EMPTY, EMPTY, A, AB, AB, AB, A, A, AB, AB],
 };
 
 /// How many lines of the text begin and end so.

@@ -1,1 +1,2 @@
+pub mod DisplayLemmas
 pub mod MemberLemmas

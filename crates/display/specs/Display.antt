@@ -75,5 +75,20 @@ unfoldable pub display_of : (last attached : ℕ) → Named FileState → Number
 display_of last attached files members entries =
     library_line last attached ++ flat_map (file_text members) files ++ flat_map entry_line entries ++ line (codes "END")
 
+-- of a library with these entries in place of those that its journal keeps, as many as they were
+abbrev pub display_reading : State → (read : List Entry) → List ℕ
+display_reading s read = display_of (s.gone + length s.entries) s.receivers.attached s.files s.members read
+
+-- with its own
 abbrev pub display : State → List ℕ
-display s = display_of (s.gone + length s.entries) s.receivers.attached s.files s.members s.entries
+display s = display_reading s s.entries
+
+-- ---- its parts, one behind the other
+
+-- what stands before the entries
+unfoldable pub display_front : (last attached : ℕ) → Named FileState → NumberedMembers → List ℕ
+display_front last attached files members = library_line last attached ++ flat_map (file_text members) files
+
+-- what stands behind them
+abbrev pub end_line : List ℕ
+end_line = line (codes "END")

@@ -16,7 +16,7 @@ use Rattle.ibmi_batch.specs.declared.status.Status.{Status}
 use Rattle.ibmi_batch.specs.declared.status.Status.TheVariants.{Done, Words, ReadFault, TooLong, Script, NotALibrary, Damaged, StoreFault, WriteFault, NoMemory, JobsEnded, Exists}
 use Rattle.ibmi_batch.specs.Storing.{Storing, IsUntouched, IsEmpty, SpelledBefore, IsRestart}
 use Rattle.ibmi_batch.specs.Outcome.{Reading, Writing, NothingWritten, IsRead, RunOver, WasRun, IsOrderly, IsOutcome}
-use Rattle.ibmi_batch.specs.Parts.{IsUnread, Makes, IsRefused, Shows, ShownOver, RunsJobs}
+use Rattle.ibmi_batch.specs.Parts.{IsUnread, Makes, IsRefused, Shows, ShownOver, UnreadOver, RunsJobs}
 use Rattle.ibmi_batch.specs.Words.{are_command_words, are_display_words, are_format_words, are_job_words, are_open_words}
 
 -- ---- words
@@ -159,7 +159,7 @@ module _ (reading : Reading) (given : List Call → Type 0) (writing : Writing) 
     complete = λ reads tells order. let its = order.journal opens in spelled-is-something storing its.0 its.1 (refused.1.1 tells);
   }
   outcome-refused (Damaged area at) refused = record {
-    comes = record { command = opens; input = input; written = refused.0; stored = refused.1.0; why = (refused.1.1, refused.1.2) };
+    comes = inl (record { command = opens; input = input; written = refused.0; stored = refused.1.0; why = (refused.1.1, refused.1.2) });
     complete = λ reads tells order. let its = order.journal opens in refused.1.2 tells its.0 its.1;
   }
   outcome-refused StoreFault refused = record {
@@ -203,7 +203,7 @@ module _ (reading : Reading) (given : List Call → Type 0) (writing : Writing) 
   }
   by-shown WriteFault shown = record {
     comes = inr (record { words = display; before = shown.before; shown = shown.shown; starts = shown.starts; restart = shown.restart; written = shown.written });
-    complete = λ reads tells order. shown.written.0;
+    complete = λ reads tells order. shown.written.is_text.0;
   }
   by-shown Words shown = absurd shown.written
   by-shown ReadFault shown = absurd shown.written
@@ -216,10 +216,22 @@ module _ (reading : Reading) (given : List Call → Type 0) (writing : Writing) 
   by-shown JobsEnded shown = absurd shown.written
   by-shown Exists shown = absurd shown.written
 
+  by-unread : (status : Status) → UnreadOver status writing storing → IsOutcome status reading given writing storing
+  by-unread status unread =
+      let its : IsOutcome (Damaged unread.area unread.at) reading given writing storing =
+      record {
+        comes = inr (record { words = display; written = unread.written; untold = unread.untold; restart = unread.restart });
+        complete = λ reads tells order. unread.untold tells;
+      } in
+      subst (λ (it : Status). IsOutcome it reading given writing storing) (sym unread.is) its
+
   pub outcome-shown : (status : Status) → Shows status writing storing → IsOutcome status reading given writing storing
   outcome-shown status shows = elim shows [
     | inl shown ↦ by-shown status shown
-    | inr refused ↦ outcome-refused reading given writing storing (open-of-display reading.words display job) no-format (λ runs. absurd cc) status refused
+    | inr other ↦ elim other [
+      | inl unread ↦ by-unread status unread
+      | inr refused ↦ outcome-refused reading given writing storing (open-of-display reading.words display job) no-format (λ runs. absurd cc) status refused
+    ]
   ]
 
 -- ---- jobs were run

@@ -55,14 +55,16 @@ in-turn-none jobs (Jobs turns) before = tt
 in-turn-none jobs RoundRobin before = tt
 
 -- an outcome of a library that hasn't failed stands
-pub stands-alive : {S : Type 0} (library : LibraryOver S) (outcome : Outcome) → IsAt library outcome → library.failed ≡ false → IsStanding outcome
-stands-alive library (Standing s) at alive = (s, refl)
-stands-alive library (Failed entries) at alive = absurd cc
+pub stands-alive : {S : Type 0} (tells : Type 0) (disk : S → Disk) (library : LibraryOver S) (outcome : Outcome) → IsAt tells disk library outcome → library.failed ≡ false
+    → IsStanding outcome
+stands-alive tells disk library (Standing s) at alive = (s, refl)
+stands-alive tells disk library (Failed entries) at alive = absurd cc
 
 -- that of one that has failed doesn't
-pub cut-failed : {S : Type 0} (library : LibraryOver S) (outcome : Outcome) → IsAt library outcome → library.failed ≡ true → IsCutShort outcome
-cut-failed library (Standing s) at failed = absurd (let alive = at.alive in cc)
-cut-failed library (Failed entries) at failed = (entries, refl)
+pub cut-failed : {S : Type 0} (tells : Type 0) (disk : S → Disk) (library : LibraryOver S) (outcome : Outcome) → IsAt tells disk library outcome → library.failed ≡ true
+    → IsCutShort outcome
+cut-failed tells disk library (Standing s) at failed = absurd (let alive = at.alive in cc)
+cut-failed tells disk library (Failed entries) at failed = (entries, refl)
 
 -- where it fails behind them the store's count of faults rose
 pub session-rose : {S C : Type 0} (tells : Type 0) (disk : S → Disk) (gives : C → ℕ → C → Type 0) (first later : SessionOver S C) (made : List Call)
@@ -84,7 +86,7 @@ module _ {S C : Type 0} (tells : Type 0) (disk : S → Disk) (gives : C → ℕ 
   pub session-outcome : Outcome
   session-outcome = led.outcome
 
-  pub session-at : IsAt later.library session-outcome
+  pub session-at : IsAt tells disk later.library session-outcome
   unfolding session-outcome led
   session-at = led.at
 
@@ -95,6 +97,7 @@ module _ {S C : Type 0} (tells : Type 0) (disk : S → Disk) (gives : C → ℕ 
   session-ran status writing ran = record {
     calls = made;
     outcome = led.outcome;
+    reading = led.reading;
     legal = led.runs;
     asked = subst (λ (calls : List Call). AreAsked first.scripts.scripts calls made) none has.asked;
     order = λ serial. subst (λ (calls : List Call). AreInTurn (length first.scripts.scripts) first.scripts.schedule calls made) none (order serial);
@@ -109,36 +112,36 @@ module _ {S C : Type 0} (tells : Type 0) (disk : S → Disk) (gives : C → ℕ 
 
 -- ---- over a library that was opened
 
-module _ {S : Type 0} (tells : Type 0) (disk : S → Disk) (old : Disk) (library : LibraryOver S) (opened : IsOpenedLibrary tells old (disk library.store) library) where
-  pub opened-forced : StandsForced tells disk library library.state
+module _ {S : Type 0} (tells : Type 0) (disk : S → Disk) (old : Disk) (library : LibraryOver S) (opened : IsOpenedLibrary tells disk old (disk library.store) library) where
+  pub opened-forced : StandsForced tells disk library opened.s
   opened-forced = record {
-    stands = record { alive = opened.alive; state = refl };
+    stands = opened.stands;
     all = opened.all;
     receiver = opened.receiver;
     left = λ told. record {
       few = omega (arith, opened.all);
       spells = λ areas may.
-          rw (opened.receiver, opened.all, take_all (length library.state.entries) library.state.entries (omega arith)) (opened.left told areas may);
+          rw (opened.receiver, opened.all, take_all (length opened.s.entries) opened.s.entries (omega arith)) (opened.left told areas may);
     };
   }
 
-  module _ (begun-library : LibraryOver S) (scripts : Scripts) (begins : BeginsJobs library begun-library scripts.names) (last : Disk) where
+  module _ (begun-library : LibraryOver S) (scripts : Scripts) (begins : BeginsJobs tells disk library begun-library scripts.names) (last : Disk) where
     -- each front of its calls can be opened again, from a start which is sound and which its journal leaves
-    module _ (askable : IsTrue (list_all is_askable_script scripts.scripts)) (law : FrontsCanBeOpened) (sound : IsSound (begun library.state scripts.names))
-        (replayed : IsReplayed (begun library.state scripts.names)) where
+    module _ (askable : IsTrue (list_all is_askable_script scripts.scripts)) (law : FrontsCanBeOpened) (sound : IsSound (begun opened.s scripts.names))
+        (replayed : IsReplayed (begun opened.s scripts.names)) where
       kept-run : (status : Status) (words : List (List ℕ)) (given : List Call → Type 0) (writing : Writing)
-          → (ran : SessionRan tells (disk library.store) last status words scripts (begun library.state scripts.names) given writing)
-          → IsKeptRun (record { tells = tells; old = old; new = last }) opened.before scripts.sources (begun library.state scripts.names) ran.calls ran.outcome
+          → (ran : SessionRan tells (disk library.store) last status words scripts (begun opened.s scripts.names) given writing)
+          → IsKeptRun (record { tells = tells; old = old; new = last }) opened.before scripts.sources (begun opened.s scripts.names) ran.calls ran.outcome
       kept-run status words given writing ran = record {
         moments = λ told.
-            run-moments law scripts.sources (begun library.state scripts.names) sound replayed (disk library.store) last library.state.entries (opened.durable told) ran.roots tells old
-            opened.before (restarted told) ran.calls ran.outcome unsaved ran.legal (ran.moments told);
+            run-moments law scripts.sources (begun opened.s scripts.names) sound replayed (disk library.store) last opened.s.entries (opened.durable told) ran.roots tells old
+            opened.before (restarted told) ran.calls ran.outcome unsaved (ran.legal told) (ran.moments told);
         acknowledged = λ told.
-            run-acknowledged law scripts.sources (begun library.state scripts.names) sound replayed (disk library.store) last library.state.entries (opened.durable told) ran.roots tells old
-            opened.before (restarted told) ran.calls ran.outcome unsaved ran.legal (ran.acknowledged told);
+            run-acknowledged law scripts.sources (begun opened.s scripts.names) sound replayed (disk library.store) last opened.s.entries (opened.durable told) ran.roots tells old
+            opened.before (restarted told) ran.calls ran.outcome unsaved (ran.legal told) (ran.acknowledged told);
         answered = λ told number few.
-            run-answered law scripts.sources (begun library.state scripts.names) sound replayed (disk library.store) last library.state.entries (opened.durable told) ran.roots tells old
-            opened.before (restarted told) ran.calls ran.outcome unsaved ran.legal number (ran.answered told number few);
+            run-answered law scripts.sources (begun opened.s scripts.names) sound replayed (disk library.store) last opened.s.entries (opened.durable told) ran.roots tells old
+            opened.before (restarted told) ran.calls ran.outcome unsaved (ran.legal told) number (ran.answered told number few);
       }
         where
           restarted : tells → Leaves old (disk library.store) (MayRestart descriptions old restart_job 0 opened.before)
@@ -148,18 +151,18 @@ module _ {S : Type 0} (tells : Type 0) (disk : S → Disk) (old : Disk) (library
           unsaved = no-checkpoint scripts askable ran.calls ran.asked
 
       pub over-run : (status : Status) (words : List (List ℕ)) (given : List Call → Type 0) (writing : Writing)
-          → SessionRan tells (disk begun-library.store) last status words scripts (begun library.state scripts.names) given writing
+          → SessionRan tells (disk begun-library.store) last status words scripts (begun opened.s scripts.names) given writing
           → RunOver status words scripts given writing (record { tells = tells; old = old; new = last })
       over-run status words given writing says =
-          let ran : SessionRan tells (disk library.store) last status words scripts (begun library.state scripts.names) given writing =
-          subst (λ (store : S). SessionRan tells (disk store) last status words scripts (begun library.state scripts.names) given writing) begins.store says in
+          let ran : SessionRan tells (disk library.store) last status words scripts (begun opened.s scripts.names) given writing =
+          subst (λ (store : S). SessionRan tells (disk store) last status words scripts (begun opened.s scripts.names) given writing) begins.store says in
           record {
             before = opened.before;
-            start = library.state;
+            start = opened.s;
             starts = opened.from;
             calls = ran.calls;
             outcome = ran.outcome;
-            run = record { legal = ran.legal; asked = ran.asked; order = ran.order };
+            run = record { reading = ran.reading; legal = ran.legal; asked = ran.asked; order = ran.order };
             timestamps = ran.timestamps;
             kept = kept-run status words given writing ran;
             ran = ran.ran;
@@ -168,23 +171,27 @@ module _ {S : Type 0} (tells : Type 0) (disk : S → Disk) (old : Disk) (library
     pub rose-run : Rose (disk begun-library.store).faults last.faults → Rose old.faults last.faults
     rose-run rose = let same = ap (λ (store : S). (disk store).faults) begins.store in let upto = opened.faults in omega (arith, rose, same, upto)
 
+    -- with its jobs begun the library is sound as it was
+    begun-sound : IsSound (begun opened.s scripts.names)
+    begun-sound = (begins.stands opened.s opened.stands).remembered.sound
+
     -- a session over it, which began with these jobs, has run
     pub runs-over : {C : Type 0} (gives : C → ℕ → C → Type 0) (session : SessionOver S C) (clock later : C) (status : Status) (words : List (List ℕ)) (writing : Writing)
-        → IsTrue (list_all is_askable_script scripts.scripts) → FrontsCanBeOpened → IsSound (begun library.state scripts.names) → IsReplayed (begun library.state scripts.names)
+        → IsTrue (list_all is_askable_script scripts.scripts) → FrontsCanBeOpened → IsReplayed (begun opened.s scripts.names)
         → session.library ≡ begun-library → session.scripts ≡ scripts → session.clock ≡ clock
         → ((from : State) → StandsForced tells disk session.library from
         → SessionRan tells (disk session.library.store) last status words session.scripts from (AreGiven gives session.clock later) writing)
         → (status ≡ StoreFault → session.library.failed ≡ false → Rose (disk session.library.store).faults last.faults)
         → RunsJobs status words scripts (AreGiven gives clock later) writing (record { tells = tells; old = old; new = last })
-    runs-over {C = C} gives session clock later status words writing askable law sound replayed over says at ran cause =
-        let forced = StandsForced-begun tells disk library begun-library scripts.names library.state opened-forced begins in
-        let done = ran (begun library.state scripts.names) (subst (λ (it : LibraryOver S). StandsForced tells disk it (begun library.state scripts.names)) (sym over) forced) in
+    runs-over {C = C} gives session clock later status words writing askable law replayed over says at ran cause =
+        let forced = StandsForced-begun tells disk library begun-library scripts.names opened.s opened-forced begins in
+        let done = ran (begun opened.s scripts.names) (subst (λ (it : LibraryOver S). StandsForced tells disk it (begun opened.s scripts.names)) (sym over) forced) in
         inl (
-          over-run askable law sound replayed status words (AreGiven gives clock later) writing
-              (subst (λ (it : LibraryOver S). SessionRan tells (disk it.store) last status words scripts (begun library.state scripts.names) (AreGiven gives clock later) writing) over
-              (subst (λ (it : Scripts). SessionRan tells (disk session.library.store) last status words it (begun library.state scripts.names) (AreGiven gives clock later) writing) says
-              (subst (λ (it : C). SessionRan tells (disk session.library.store) last status words session.scripts (begun library.state scripts.names) (AreGiven gives it later) writing) at done))),
+          over-run askable law begun-sound replayed status words (AreGiven gives clock later) writing
+              (subst (λ (it : LibraryOver S). SessionRan tells (disk it.store) last status words scripts (begun opened.s scripts.names) (AreGiven gives clock later) writing) over
+              (subst (λ (it : Scripts). SessionRan tells (disk session.library.store) last status words it (begun opened.s scripts.names) (AreGiven gives clock later) writing) says
+              (subst (λ (it : C). SessionRan tells (disk session.library.store) last status words session.scripts (begun opened.s scripts.names) (AreGiven gives it later) writing) at done))),
           λ fault.
               rose-run (subst (λ (it : LibraryOver S). Rose (disk it.store).faults last.faults) over
-              (cause fault (ap (λ (it : LibraryOver S). it.failed) over ∙ begins.failed ∙ opened.alive))),
+              (cause fault (ap (λ (it : LibraryOver S). it.failed) over ∙ begins.failed ∙ opened.stands.alive))),
         )

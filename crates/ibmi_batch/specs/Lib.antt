@@ -4,3 +4,4 @@ pub mod Storing
 pub mod Outcome
 pub mod Parts
 pub mod Opening
+pub mod Seen

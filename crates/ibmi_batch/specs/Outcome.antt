@@ -1,5 +1,6 @@
 -- What an outcome of a command is, status by status: its cause, what was read, what the jobs did, what was written, and what became of the store. (Our own.)
--- Sources, sinks and stores may tell what they have; what the jobs did is said whether they tell it or not.
+-- Sources, sinks and stores may tell what they have. What each job's script asked, and what each call came to for what it read of the journal, is said whether
+-- they tell it or not; that the calls are a legal history needs a store that tells.
 use Rattle.std.specs.Prelude.{◌≡◌, ◌⊎◌, ℕ, ◌<◌, ◌≤◌, Bool, true, false, IsTrue, Some, List, [], ◌++◌, length, take}
 use Rattle.entry_codec.specs.declared.entries.Entry.{Entry}
 use Rattle.text_lines.specs.Lines.{lines_of}
@@ -11,9 +12,10 @@ use Rattle.script_builder.specs.Least.{least}
 use Rattle.input_reader.specs.Input.{faults_of, input_of}
 use Rattle.job_runner.specs.Asked.{AreAsked}
 use Rattle.job_runner.specs.Ended.{has_ended, has_early_end}
+use Rattle.job_runner.specs.Reading.{RunsReading}
 use Rattle.job_runner.specs.Turns.{AreInTurn}
 use Rattle.listing.specs.HistoryListing.{listing}
-use Rattle.display.specs.Display.{display}
+use Rattle.display.specs.Display.{display_reading}
 use Rattle.ibmi_batch.specs.declared.limits.TheConstants.{MOST_INPUT}
 use Rattle.ibmi_batch.specs.declared.status.Status.{Status}
 use Rattle.ibmi_batch.specs.declared.status.Status.TheVariants.{Done, Words, ReadFault, TooLong, Script, NotALibrary, Damaged, StoreFault, WriteFault, NoMemory, JobsEnded, Exists}
@@ -56,10 +58,11 @@ pub record IsRead (tells : Type 0) (input : List ℕ) (scripts : Scripts) : Type
   pub sound : faults_of (lines_of bytes) ≡ []
   pub says : scripts ≡ input_of (lines_of bytes)
 
--- from a start on, the calls are a legal history of the jobs of these scripts, each of them what its job's script asks; where the words are those of SERIAL,
--- the calls are made in turn by the schedule
-pub record IsRun (words : List (List ℕ)) (scripts : Scripts) (start : State) (calls : List Call) (outcome : Outcome) : Type 0 where
-  pub legal : Runs scripts.sources (Standing (begun start scripts.names)) calls outcome
+-- from a start on, each of the calls is of a job of these scripts, which runs, and comes to what its step comes to for what was read of the journal; where the
+-- store tells its bytes, they are a legal history. Each is what its job's script asks; where the words are those of SERIAL, they are made in turn by the schedule
+pub record IsRun (tells : Type 0) (words : List (List ℕ)) (scripts : Scripts) (start : State) (calls : List Call) (outcome : Outcome) : Type 0 where
+  pub reading : RunsReading tells scripts.sources (Standing (begun start scripts.names)) calls outcome
+  pub legal : tells → Runs scripts.sources (Standing (begun start scripts.names)) calls outcome
   pub asked : AreAsked scripts.scripts [] calls
   pub order : are_serial_words words ≡ true → AreInTurn (length scripts.scripts) scripts.schedule [] calls
 
@@ -104,7 +107,7 @@ pub record RunOver (status : Status) (words : List (List ℕ)) (scripts : Script
   pub starts : IsStart storing before start
   pub calls : List Call
   pub outcome : Outcome
-  pub run : IsRun words scripts start calls outcome
+  pub run : IsRun storing.tells words scripts start calls outcome
   pub timestamps : given calls
   pub kept : IsKeptRun storing before scripts.sources (begun start scripts.names) calls outcome
   pub ran : HasRun status scripts calls outcome writing
@@ -119,20 +122,28 @@ pub record WasRun (status : Status) (reading : Reading) (given : List Call → T
 
 -- ---- a library is shown
 
+-- a text is the display of a library: its files and members, and entries that were read of its journal, as many as that has. Where the store tells of its
+-- bytes they are its own, and the text is `display shown`
+pub record IsDisplay (tells : Type 0) (shown : State) (IsText : List ℕ → Type 0) : Type 0 where
+  pub read : List Entry
+  pub many : length read ≡ length shown.entries
+  pub own : tells → read ≡ shown.entries
+  pub is_text : IsText (display_reading shown read)
+
 -- what was written of the display of the library, which was opened and brought to its end by a restart
-abbrev pub HasShown : Status → State → Writing → Type 0
-HasShown Done shown writing = IsWritten (display shown) writing
-HasShown WriteFault shown writing = IsWrittenInPart (display shown) writing
-HasShown Words shown writing = ⊥
-HasShown ReadFault shown writing = ⊥
-HasShown TooLong shown writing = ⊥
-HasShown (Script line) shown writing = ⊥
-HasShown NotALibrary shown writing = ⊥
-HasShown (Damaged area at) shown writing = ⊥
-HasShown StoreFault shown writing = ⊥
-HasShown NoMemory shown writing = ⊥
-HasShown JobsEnded shown writing = ⊥
-HasShown Exists shown writing = ⊥
+abbrev pub HasShown : Status → (tells : Type 0) → State → Writing → Type 0
+HasShown Done tells shown writing = IsDisplay tells shown (λ text. IsWritten text writing)
+HasShown WriteFault tells shown writing = IsDisplay tells shown (λ text. IsWrittenInPart text writing)
+HasShown Words tells shown writing = ⊥
+HasShown ReadFault tells shown writing = ⊥
+HasShown TooLong tells shown writing = ⊥
+HasShown (Script line) tells shown writing = ⊥
+HasShown NotALibrary tells shown writing = ⊥
+HasShown (Damaged area at) tells shown writing = ⊥
+HasShown StoreFault tells shown writing = ⊥
+HasShown NoMemory tells shown writing = ⊥
+HasShown JobsEnded tells shown writing = ⊥
+HasShown Exists tells shown writing = ⊥
 
 pub record WasShown (status : Status) (reading : Reading) (writing : Writing) (storing : Storing) : Type 0 where
   pub words : are_display_words reading.words ≡ true
@@ -140,7 +151,15 @@ pub record WasShown (status : Status) (reading : Reading) (writing : Writing) (s
   pub shown : State
   pub starts : IsStart storing before shown
   pub restart : IsRestart storing
-  pub written : HasShown status shown writing
+  pub written : HasShown status storing.tells shown writing
+
+-- the library was opened, and a block of its journal didn't read back as the entries that were deposited, as it always does over a store that tells of its
+-- bytes: nothing was written
+pub record WasUnread (reading : Reading) (writing : Writing) (storing : Storing) : Type 0 where
+  pub words : are_display_words reading.words ≡ true
+  pub written : NothingWritten writing
+  pub untold : storing.tells → ⊥
+  pub restart : IsRestart storing
 
 -- ---- a library is made
 
@@ -193,7 +212,8 @@ Comes ReadFault reading given writing storing = InputRefused reading writing sto
 Comes TooLong reading given writing storing = InputRefused reading writing storing (reading.tells → MOST_INPUT < length reading.input)
 Comes (Script line) reading given writing storing = InputRefused reading writing storing (reading.tells → ScriptRefused reading.input reading.left line)
 Comes NotALibrary reading given writing storing = StoreRefused (are_open_words reading.words) reading writing storing (WasEmpty storing)
-Comes (Damaged area at) reading given writing storing = StoreRefused (are_open_words reading.words) reading writing storing (WasSomething storing × WasNoJournal storing)
+Comes (Damaged area at) reading given writing storing =
+    StoreRefused (are_open_words reading.words) reading writing storing (WasSomething storing × WasNoJournal storing) ⊎ WasUnread reading writing storing
 Comes Exists reading given writing storing = StoreRefused (are_format_words reading.words) reading writing storing (WasSomething storing)
 Comes Done reading given writing storing = WasRun Done reading given writing storing ⊎ (WasShown Done reading writing storing ⊎ WasFormatted reading writing storing)
 Comes JobsEnded reading given writing storing = WasRun JobsEnded reading given writing storing

@@ -16,12 +16,12 @@ use Rattle.input_scripts.specs.Askable.{is_askable_script}
 use Rattle.input_scripts.specs.Schedules.{NamesJobs}
 use Rattle.input_reader.specs.Input.{faults_of}
 use Rattle.job_runner.specs.Asked.{AreAsked}
+use Rattle.job_runner.specs.Reading.{RunsReading}
 use Rattle.job_runner.specs.Turns.{AreInTurn}
 use Rattle.ibmi_batch.specs.declared.limits.TheConstants.{MOST_INPUT}
 use Rattle.ibmi_batch.specs.declared.status.Status.{Status}
 use Rattle.ibmi_batch.specs.declared.status.Status.TheVariants.{Done, Words, ReadFault, TooLong, Script, NotALibrary, Damaged, StoreFault, WriteFault, NoMemory, JobsEnded, Exists}
-use Rattle.display.specs.Display.{display}
-use Rattle.ibmi_batch.specs.Outcome.{Writing, IsWritten, IsWrittenInPart, NothingWritten, ScriptRefused, RunOver, HasRun, HasShown}
+use Rattle.ibmi_batch.specs.Outcome.{Writing, IsDisplay, IsWritten, IsWrittenInPart, NothingWritten, ScriptRefused, RunOver, HasRun, HasShown}
 use Rattle.ibmi_batch.specs.Storing.{Storing, StoreRose, IsUntouched, WasEmpty, WasSomething, WasNoJournal, IsFormatting, IsFormatted, IsStart, IsRestart}
 use Rattle.ibmi_batch.specs.Words.{are_serial_words}
 
@@ -87,20 +87,20 @@ IsUnopened Exists storing = ⊥
 abbrev pub IsRefused : Status → Writing → Storing → Type 0
 IsRefused status writing storing = NothingWritten writing × IsUnopened status storing
 
--- what was written of a library's display
-abbrev pub Displays : Status → State → Writing → Type 0
-Displays Done shown writing = IsWritten (display shown) writing
-Displays WriteFault shown writing = IsWrittenInPart (display shown) writing
-Displays NoMemory shown writing = NothingWritten writing
-Displays Words shown writing = ⊥
-Displays ReadFault shown writing = ⊥
-Displays TooLong shown writing = ⊥
-Displays (Script line) shown writing = ⊥
-Displays NotALibrary shown writing = ⊥
-Displays (Damaged area at) shown writing = ⊥
-Displays StoreFault shown writing = ⊥
-Displays JobsEnded shown writing = ⊥
-Displays Exists shown writing = ⊥
+-- what was written of a library's display, or why nothing was: memory was wanting, the store failed, or a block of the journal didn't read back
+abbrev pub Displays : Status → (tells : Type 0) → State → Writing → (rose : Type 0) → Type 0
+Displays Done tells shown writing rose = IsDisplay tells shown (λ text. IsWritten text writing)
+Displays WriteFault tells shown writing rose = IsDisplay tells shown (λ text. IsWrittenInPart text writing)
+Displays NoMemory tells shown writing rose = NothingWritten writing
+Displays StoreFault tells shown writing rose = NothingWritten writing × rose
+Displays (Damaged area at) tells shown writing rose = NothingWritten writing × (tells → ⊥)
+Displays Words tells shown writing rose = ⊥
+Displays ReadFault tells shown writing rose = ⊥
+Displays TooLong tells shown writing rose = ⊥
+Displays (Script line) tells shown writing rose = ⊥
+Displays NotALibrary tells shown writing rose = ⊥
+Displays JobsEnded tells shown writing rose = ⊥
+Displays Exists tells shown writing rose = ⊥
 
 -- the library was shown
 pub record ShownOver (status : Status) (writing : Writing) (storing : Storing) : Type 0 where
@@ -108,10 +108,19 @@ pub record ShownOver (status : Status) (writing : Writing) (storing : Storing) :
   pub shown : State
   pub starts : IsStart storing before shown
   pub restart : IsRestart storing
-  pub written : HasShown status shown writing
+  pub written : HasShown status storing.tells shown writing
+
+-- it was opened, and a block of its journal didn't read back
+pub record UnreadOver (status : Status) (writing : Writing) (storing : Storing) : Type 0 where
+  pub area : ℕ
+  pub at : ℕ
+  pub is : status ≡ Damaged area at
+  pub written : NothingWritten writing
+  pub untold : storing.tells → ⊥
+  pub restart : IsRestart storing
 
 abbrev pub Shows : Status → Writing → Storing → Type 0
-Shows status writing storing = ShownOver status writing storing ⊎ IsRefused status writing storing
+Shows status writing storing = ShownOver status writing storing ⊎ (UnreadOver status writing storing ⊎ IsRefused status writing storing)
 
 -- the jobs ran, and where a call found the store at fault its count of faults rose; or no call was made
 abbrev pub RunsJobs : Status → (words : List (List ℕ)) → Scripts → (List Call → Type 0) → Writing → Storing → Type 0
@@ -122,7 +131,8 @@ RunsJobs status words scripts given writing storing =
 pub record SessionRan (tells : Type 0) (first last : Disk) (status : Status) (words : List (List ℕ)) (scripts : Scripts) (from : State) (given : List Call → Type 0) (writing : Writing) : Type 0 where
   pub calls : List Call
   pub outcome : Outcome
-  pub legal : Runs scripts.sources (Standing from) calls outcome
+  pub reading : RunsReading tells scripts.sources (Standing from) calls outcome
+  pub legal : tells → Runs scripts.sources (Standing from) calls outcome
   pub asked : AreAsked scripts.scripts [] calls
   pub order : are_serial_words words ≡ true → AreInTurn (length scripts.scripts) scripts.schedule [] calls
   pub timestamps : given calls

@@ -28,7 +28,6 @@ use library_model::requests::{EndReason, Request};
 use listing::history_listing::listing;
 use opened_library::open_library;
 use replayed_restarts::restarted_libraries_are_replayed;
-use run_laws::jobs_begin_in_a_sound_library;
 use std::alloc::{AllocError, Global};
 use store_model::{Clock, Sink, Store, write_all};
 
@@ -53,7 +52,6 @@ pub(crate) fn run_scripts<S: Store, O: Sink, C: Clock>(
     ensures { RunsJobs result.0 (map string_bytes words.now) scripts (AreGiven C.gives clock result.2) (record { tells = O.tells; old = O.taken out.old; new = O.taken out.new; rose = Rose (O.faults out.old) (O.faults out.new) }) (record { tells = S.tells; old = S.disk store; new = S.disk result.1 }) }
 {
     // Whatever a stop leaves of the calls can be opened again.
-    jobs_begin_in_a_sound_library();
     restarted_libraries_are_replayed();
     fronts_can_be_opened();
     match open_library(alloc, store) {
@@ -91,7 +89,7 @@ fn write_outcome<S: Store, O: Sink, C: Clock>(
     out: &mut O,
 ) -> Status
     requires { ran ≡ Ran.Done → HaveEnded session.now.scripts session.now.calls }
-    ensures ran { (outcome : Outcome) → IsAt session.now.library outcome → HasRun result session.now.scripts session.now.calls outcome (record { tells = O.tells; old = O.taken out.old; new = O.taken out.new; rose = Rose (O.faults out.old) (O.faults out.new) }) }
+    ensures ran { (outcome : Outcome) → IsAt S.tells S.disk session.now.library outcome → HasRun result session.now.scripts session.now.calls outcome (record { tells = O.tells; old = O.taken out.old; new = O.taken out.new; rose = Rose (O.faults out.old) (O.faults out.new) }) }
     ensures cause { result ≡ Status.StoreFault → session.now.library.failed ≡ true }
 {
     if session.failed() {

@@ -20,7 +20,7 @@ use Rattle.library_core.specs.Deposits.{switches}
 use Rattle.library_core.specs.Parts.{LibraryOver}
 use Rattle.library_core.specs.Stands.{Stands, IsAt, ComesReading, Goes, whole_from}
 use Rattle.library_core.specs.Fronts.{entries_at, entries_behind, HasSwitched, IsAcknowledged, IsWhole, HasAcknowledged}
-use Rattle.memory_journal.proofs.BlankLemmas.{length-blanks}
+use Rattle.library_core.proofs.MemoryLemmas.{length-remembered}
 use Rattle.joint_state.specs.Sound.{MayBeRead}
 use Rattle.journal_model.specs.Journal.{AreNumbered}
 use Rattle.job_runner.specs.Reading.{RunsReading}
@@ -200,8 +200,7 @@ three (suc n) (suc count) low high none one both =
 
 -- as many entries are in the memory as there are
 pub length-kept : {S : Type 0} (tells : Type 0) (disk : S → Disk) (library : LibraryOver S) (s : State) → Stands tells disk library s → length library.state.entries ≡ length s.entries
-length-kept tells disk library s stands =
-    ap (λ (x : State). length x.entries) stands.remembered.memory ∙ length-blanks (s.gone + 1) (length s.entries)
+length-kept tells disk library s stands = length-remembered library.state s stands.remembered.memory
 
 module _ {S : Type 0} (tells : Type 0) (disk : S → Disk) (sources : List NamedSource) (first later : LibraryOver S) (call : Call) (called : HasCalled tells disk sources first later call)
     (s : State) (here : Stands tells disk first s) where

@@ -4,7 +4,6 @@ use Rattle.std.specs.List.{AllByRecursion}
 use Rattle.std.specs.Prelude.{IsErr, IsErrOf}
 use Rattle.std.proofs.lemmas.List.{length-drop, length-take-le, take-append-drop}
 use Rattle.store_model.specs.Disk.{Disk}
-use Rattle.store_model.specs.Faults.{Rose}
 use Rattle.entry_codec.specs.declared.entries.Entry.{Entry}
 use Rattle.journal_book.specs.Book.{BookState, Holds, IsHeld, last_of}
 use Rattle.journal_book.specs.Reads.{between}
@@ -16,7 +15,9 @@ use Rattle.journal_reads.specs.Stretches.{EntriesFrom, entries_from}
 use Rattle.library_steps.specs.State.{State, memory_of}
 use Rattle.record_changes.specs.Told.{IsTold}
 use Rattle.kept_library.specs.Journaled.{IsRemembered}
-use Rattle.library_core.specs.Reads.{IsReadOf}
+use Rattle.library_core.specs.Reads.{HasRead, IsReadOf}
+use Rattle.library_core.specs.declared.reading.ReadFault.{ReadFault}
+use Rattle.library_core.specs.declared.reading.ReadFault.TheVariants as reads
 use Rattle.library_core.proofs.MemoryLemmas.{length-remembered}
 use Rattle.library_core.proofs.SpliceLemmas.{each-drop, each-take, read-spliced}
 
@@ -24,7 +25,7 @@ pub held-of : (tells : Type 0) (disk : Disk) (book : BookState) (m s : State) �
 held-of tells disk book m s is told = ∣ (s.entries, is.journaled.holds told) ∣₁
 
 -- what was judged
-pub record IsJudged (m : State) (from to : ℕ) (entries : List Entry) (result : Result EntriesFrom ℕ) : Type 0 where
+pub record IsJudged {E : Type 0} (m : State) (from to : ℕ) (entries : List Entry) (result : Result EntriesFrom E) : Type 0 where
   pub stretch : IfOk result (λ stretch. stretch ≡ entries_from from entries)
   pub long : OnOk result (length entries ≡ to + 1 - from)
   pub numbered : OnOk result (AreNumbered from entries)
@@ -84,19 +85,17 @@ module _ (tells : Type 0) (disk : Disk) (book : BookState) (m s : State) (from t
       given told s.entries (its.journaled.holds told)
       ∙ ap (λ (n : ℕ). take (to + 1 - from) (drop (from - n) s.entries)) its.journaled.book_of.first
 
-  pub judged-read : (entries : List Entry) (result : Result EntriesFrom ℕ) → IsJudged m from to entries result
-      → (tells → (all : List Entry) → Holds book all disk → entries ≡ between book.first from to all) → (stretch : EntriesFrom) → result ≡ Ok stretch
-      → (read : List Entry) × IsReadOf tells s stretch read
-  judged-read entries (Err sequence) judged given stretch is = absurd cc
-  judged-read entries (Ok found) judged given stretch is =
+  pub judged-read : {E : Type 0} (entries : List Entry) (result : Result EntriesFrom E) → IsJudged m from to entries result
+      → (tells → (all : List Entry) → Holds book all disk → entries ≡ between book.first from to all) → HasRead tells s result
+  judged-read entries (Err fault) judged given = tt
+  judged-read entries (Ok stretch) judged given =
       let fits : from + length entries ≤ s.gone + length s.entries + 1 = omega (arith, judged.long, last-there, order) in
-      let same : stretch ≡ entries_from from entries = cc (is, judged.stretch) in
-      subst (λ (x : EntriesFrom). (read : List Entry) × IsReadOf tells s x read) (sym same)
+      subst (λ (x : EntriesFrom). (read : List Entry) × IsReadOf tells s x read) (sym judged.stretch)
       (read-spliced s from entries its.sound kept fits judged.numbered (files-same entries judged.told) tells
       (λ told. given-own entries given told ∙ ap (λ (n : ℕ). take n (drop (from - (s.gone + 1)) s.entries)) (sym judged.long)))
 
   -- over a store that tells nothing else is read
-  pub judged-untold : (entries : List Entry) (result : Result EntriesFrom ℕ) → IsJudged m from to entries result
+  pub judged-untold : {E : Type 0} (entries : List Entry) (result : Result EntriesFrom E) → IsJudged m from to entries result
       → (tells → (all : List Entry) → Holds book all disk → entries ≡ between book.first from to all) → IsErr result → tells → ⊥
   judged-untold entries result judged given bad told =
       let same = sym (given-own entries given told) in
@@ -107,22 +106,34 @@ module _ (tells : Type 0) (disk : Disk) (book : BookState) (m s : State) (from t
   last-book : to ≤ last_of book
   last-book = omega (arith, last-there, its.journaled.book_of.next)
 
-  first-book : book.first ≤ from
+  pub first-book : book.first ≤ from
   first-book = omega (arith, kept, its.journaled.book_of.first)
 
   -- what the book gives no entries for by the store's fault
-  pub fault-cause : {A : Type 0} (new : Disk) (result : Result A BookFault) (fault : BookFault) → result ≡ Err fault → (fault ≡ faults.NoMemory → ⊥)
-      → ((sequence area at : ℕ) → fault ≡ faults.BlockChanged sequence area at → ⊥)
-      → (from ≤ to → 1 ≤ from → to ≤ last_of book → IsErrOf result faults.NoSuchEntry → ⊥)
-      → (book.first ≤ from → (sequence : ℕ) → IsErrOf result (faults.ReceiverGone sequence) → ⊥)
-      → (IsErrOf result faults.StoreFault → Rose disk.faults new.faults) → Rose disk.faults new.faults
-  fault-cause {A = A} new result faults.NoSuchEntry at other unchanged there gone cause =
-      absurd (there order (omega (arith, kept)) last-book (subst (λ (r : Result A BookFault). IsErrOf r faults.NoSuchEntry) (sym at) refl))
-  fault-cause {A = A} new result (faults.ReceiverGone sequence) at other unchanged there gone cause =
-      absurd (gone first-book sequence (subst (λ (r : Result A BookFault). IsErrOf r (faults.ReceiverGone sequence)) (sym at) refl))
-  fault-cause {A = A} new result faults.StoreFault at other unchanged there gone cause = cause (subst (λ (r : Result A BookFault). IsErrOf r faults.StoreFault) (sym at) refl)
-  fault-cause {A = A} new result (faults.BlockChanged sequence area place) at other unchanged there gone cause = absurd (unchanged sequence area place refl)
-  fault-cause {A = A} new result faults.NoMemory at other unchanged there gone cause = absurd (other refl)
+  pub fault-cause : (rose : Type 0) (fault : BookFault) → (fault ≡ faults.NoMemory → ⊥) → ((sequence area at : ℕ) → fault ≡ faults.BlockChanged sequence area at → ⊥)
+      → (from ≤ to → 1 ≤ from → to ≤ last_of book → fault ≡ faults.NoSuchEntry → ⊥) → (book.first ≤ from → (sequence : ℕ) → fault ≡ faults.ReceiverGone sequence → ⊥)
+      → (fault ≡ faults.StoreFault → rose) → rose
+  fault-cause rose faults.NoSuchEntry other unchanged there gone cause = absurd (there order (omega (arith, kept)) last-book refl)
+  fault-cause rose (faults.ReceiverGone sequence) other unchanged there gone cause = absurd (gone first-book sequence refl)
+  fault-cause rose faults.StoreFault other unchanged there gone cause = cause refl
+  fault-cause rose (faults.BlockChanged sequence area at) other unchanged there gone cause = absurd (unchanged sequence area at refl)
+  fault-cause rose faults.NoMemory other unchanged there gone cause = absurd (other refl)
+
+-- one fault of two
+pub not-memory : (fault : ReadFault) → fault ≡ reads.NoMemory → fault ≡ reads.StoreFault → ⊥
+not-memory fault none bad = let same : reads.NoMemory ≡ reads.StoreFault = sym none ∙ bad in absurd cc
+
+pub not-changed : (fault : ReadFault) (sequence : ℕ) → fault ≡ reads.BlockChanged sequence → fault ≡ reads.StoreFault → ⊥
+not-changed fault sequence changed bad = let same : reads.BlockChanged sequence ≡ reads.StoreFault = sym changed ∙ bad in absurd cc
+
+pub err-same : {T E : Type 0} (a b : E) → IsErrOf {T = T} {E = E} (Err a) b → a ≡ b
+err-same a b is = cc
+
+pub err-of : {T E : Type 0} (a b : E) → a ≡ b → IsErrOf {T = T} {E = E} (Err a) b
+err-of a b is = cc
+
+pub fault-bad : {T E : Type 0} (result : Result T E) (fault : E) → IsErrOf result fault → IsErr result
+fault-bad {T = T} {E = E} result fault is = subst (λ (r : Result T E). IsErr r) (sym is) refl
 
 -- the last sequence is far below the greatest that eight bytes hold
 pub few-entries : (tells : Type 0) (disk : Disk) (book : BookState) (m s : State) → IsRemembered tells disk book m s → (memory_of m).last_entry + 1 < 2 ^ 64

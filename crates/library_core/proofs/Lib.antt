@@ -30,3 +30,4 @@ pub mod SameLemmas
 pub mod SpliceLemmas
 pub mod JudgedLemmas
 pub mod OwnedLemmas
+pub mod CachedLemmas

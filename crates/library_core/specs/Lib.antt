@@ -2,6 +2,7 @@ pub mod Running
 pub mod Puts
 pub mod Laws
 pub mod Reads
+pub mod Cached
 pub use Rattle.kept_library.specs.Parts
 pub use Rattle.kept_library.specs.Stands
 pub use Rattle.journal_fronts.specs.Deposits

@@ -1,6 +1,6 @@
 //! How a request is answered where the journal stands on a disk alone: what it reads is read first, room for its block is made, and what it deposits is put
 //! behind it and forgotten. `library.rt` has the library.
-ghost use Rattle.std.specs.Prelude.{◌≡◌, ◌+◌, ◌*◌, ◌≤◌, ◌<◌, true, false, Ok, List, length, IfOk, IsErr, IsOk, IsTrue, OnOk};
+ghost use Rattle.std.specs.Prelude.{◌≡◌, ◌+◌, ◌*◌, ◌≤◌, ◌<◌, true, false, Ok, List, [], length, unwrap_or, IfOk, IsErr, IsOk, IsTrue, OnOk};
 ghost use Rattle.entry_codec.specs.declared.entries.Entry.{Entry};
 ghost use Rattle.journal_book.specs.Book.{HasMoreRoom, IsHeld};
 ghost use Rattle.kept_journal.specs.Journals.{MayWait};
@@ -18,13 +18,16 @@ ghost use Rattle.memory_journal.specs.Blanks.{in_memory};
 ghost use Rattle.commitment_requests.specs.Answers.{Answers, Gives, reply_of};
 ghost use Rattle.commitment_requests.specs.Remembered.{remembered};
 ghost use Rattle.kept_library.specs.Journaled.{IsRemembered};
+ghost use Rattle.library_core.specs.Cached.{AreCached};
 ghost use Rattle.library_core.specs.Puts.{HasCome, HasTaken, answer_given, are_put, places_taken};
 ghost use Rattle.library_core.specs.Reads.{IsReadOf};
 
+use crate::cached::read_through;
 use crate::dispatch::perform;
 use crate::kinds;
 use crate::laws::journal_lasts;
-use crate::reading::{ReadFault, read_for};
+use crate::reading::ReadFault;
+use block_cache::BlockCache;
 use commitment_requests::library_parts::{Contents, Stop};
 use entry_codec::Entry;
 use forced_calls::is_forced;
@@ -43,10 +46,11 @@ use store_model::Store;
 /// So many jobs have block places, two each and one more, whose number is a u32.
 const MOST_JOBS: usize = 2_147_483_647;
 
-/// Answers a request of a job, and tells whether the store was found at fault.
+/// Answers a request of a job, and tells whether the store was found at fault. What is cached stands to the journal as it was before.
 pub(crate) fn answer<S: Store>(
     contents: &mut Contents,
     journal: &mut KeptJournal,
+    cache: &mut Option<BlockCache>,
     store: &mut S,
     job: u32,
     timestamp: u64,
@@ -57,12 +61,16 @@ pub(crate) fn answer<S: Store>(
     requires built { IsTrue (is_built request.now) }
     requires short { AreShort sources.now }
     requires kept { (s : State) × IsRemembered S.tells (S.disk store.old) journal.old contents.old.state s }
-    ensures { (s : State) → IsRemembered S.tells (S.disk store.old) journal.old contents.old.state s → HasCome S.tells sources.now (S.disk store.old) (S.disk store.new) journal.old journal.new contents.new.state s (record { job = job; timestamp = timestamp; request = request.now; reply = result.0 }) result.1 }
+    requires cached { AreCached S.tells journal.old (S.disk store.old) (unwrap_or cache.old []) }
+    ensures come { (s : State) → IsRemembered S.tells (S.disk store.old) journal.old contents.old.state s → HasCome S.tells sources.now (S.disk store.old) (S.disk store.new) journal.old journal.new contents.new.state s (record { job = job; timestamp = timestamp; request = request.now; reply = result.0 }) result.1 }
+    ensures cached { AreCached S.tells journal.old (S.disk store.old) (unwrap_or cache.new []) }
 {
     if kinds::switches(request) {
         attach_receiver(contents, journal, store, job, timestamp)
     } else {
-        answer_other(contents, journal, store, job, timestamp, sources, request)
+        answer_other(
+            contents, journal, cache, store, job, timestamp, sources, request,
+        )
     }
 }
 
@@ -70,6 +78,7 @@ pub(crate) fn answer<S: Store>(
 fn answer_other<S: Store>(
     contents: &mut Contents,
     journal: &mut KeptJournal,
+    cache: &mut Option<BlockCache>,
     store: &mut S,
     job: u32,
     timestamp: u64,
@@ -81,9 +90,11 @@ fn answer_other<S: Store>(
     requires short { AreShort sources.now }
     requires other { switches request.now ≡ false }
     requires kept { (s : State) × IsRemembered S.tells (S.disk store.old) journal.old contents.old.state s }
-    ensures { (s : State) → IsRemembered S.tells (S.disk store.old) journal.old contents.old.state s → HasCome S.tells sources.now (S.disk store.old) (S.disk store.new) journal.old journal.new contents.new.state s (record { job = job; timestamp = timestamp; request = request.now; reply = result.0 }) result.1 }
+    requires cached { AreCached S.tells journal.old (S.disk store.old) (unwrap_or cache.old []) }
+    ensures come { (s : State) → IsRemembered S.tells (S.disk store.old) journal.old contents.old.state s → HasCome S.tells sources.now (S.disk store.old) (S.disk store.new) journal.old journal.new contents.new.state s (record { job = job; timestamp = timestamp; request = request.now; reply = result.0 }) result.1 }
+    ensures cached { AreCached S.tells journal.old (S.disk store.old) (unwrap_or cache.new []) }
 {
-    match read_for(contents, journal, store, request) {
+    match read_through(contents, journal, cache, store, request) {
         Ok(stretch) => answer_read(
             contents, journal, store, job, timestamp, sources, request, &stretch,
         ),

@@ -2,6 +2,7 @@
 #![tactic(auto)]
 
 mod answering;
+mod cached;
 mod dispatch;
 mod kinds;
 mod laws;

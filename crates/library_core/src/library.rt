@@ -18,6 +18,7 @@ ghost use Rattle.kept_library.specs.Stands.{Stands, IsReady, Goes, whole_from};
 
 use crate::answering::{answer, reserve_for};
 use crate::laws::journal_lasts;
+use block_cache::BlockCache;
 use commitment_requests::library_parts::Contents;
 use field_types::names::Name;
 use kept_journal::KeptJournal;
@@ -34,21 +35,24 @@ use store_model::Store;
 pub struct Library<S: Store> {
     store: S,
     journal: KeptJournal,
+    /// The blocks of the journal that were read last; `None` until a request reads it.
+    cache: Option<BlockCache>,
     contents: Contents,
     failed: bool,
 }
 
 impl<S: Store> Model for Library<S> {
-    ghost use Rattle.std.specs.Prelude.{◌≡◌, false};
+    ghost use Rattle.std.specs.Prelude.{◌≡◌, [], false, unwrap_or};
     ghost use Rattle.library_steps.specs.State.{State};
     ghost use Rattle.kept_library.specs.Journaled.{IsRemembered};
     ghost use Rattle.kept_library.specs.Parts.{LibraryOver};
+    ghost use Rattle.library_core.specs.Cached.{AreCached};
 
     ghost Value = { LibraryOver S };
 
     ghost view = { λ l. record { store = l.store; book = l.journal; state = l.contents.state; paths = l.contents.room.paths.paths; failed = l.failed } };
 
-    ghost invariant = { λ l. l.failed ≡ false → (s : State) × IsRemembered S.tells (S.disk l.store) l.journal l.contents.state s };
+    ghost invariant = { λ l. (l.failed ≡ false → (s : State) × IsRemembered S.tells (S.disk l.store) l.journal l.contents.state s) × (l.failed ≡ false → AreCached S.tells l.journal (S.disk l.store) (unwrap_or l.cache [])) };
 }
 
 impl<S: Store> Library<S> {
@@ -60,6 +64,7 @@ impl<S: Store> Library<S> {
         Library {
             store,
             journal,
+            cache: None,
             contents,
             failed: false,
         }
@@ -114,6 +119,7 @@ impl<S: Store> Library<S> {
         let Library {
             store,
             journal: _,
+            cache: _,
             contents: _,
             failed: _,
         } = self;
@@ -169,6 +175,7 @@ pub fn call<S: Store>(
     let (reply, failed) = answer(
         &mut library.contents,
         &mut library.journal,
+        &mut library.cache,
         &mut library.store,
         job,
         timestamp,

@@ -1,27 +1,28 @@
 //! What a request reads of the journal, before anything is done. `answering.rt` does the request then.
-ghost use Rattle.std.specs.Prelude.{◌≡◌, ◌+◌, ◌-◌, ◌≤◌, ◌<◌, ◌^◌, ℕ, true, None, [], length, IfErr, IfOk, IfSome, IsErr, IsErrOf, OnOk};
+ghost use Rattle.std.specs.Prelude.{◌≡◌, ◌+◌, ◌-◌, ◌≤◌, ◌<◌, ◌^◌, ℕ, true, None, List, [], length, IfErr, IfOk, IfSome, IsErr, IsErrOf, OnOk};
 ghost use Rattle.std.specs.List.{AllByRecursion};
 ghost use Rattle.store_model.specs.Faults.{Rose};
 ghost use Rattle.record_changes.specs.Told.{IsTold};
 ghost use Rattle.entry_codec.specs.declared.entries.Entry.{Entry};
 ghost use Rattle.store_model.specs.Disk.{Stays};
-ghost use Rattle.library_model.specs.NeedsMemory.{needs_memory};
 ghost use Rattle.library_steps.specs.State.{State, memory_of};
 ghost use Rattle.kept_library.specs.Journaled.{IsRemembered};
-ghost use Rattle.kept_library.specs.Unread.{reads_journal};
+ghost use Rattle.journal_book.specs.Book.{Holds, IsHeld, last_of};
+ghost use Rattle.journal_book.specs.Reads.{between};
+ghost use Rattle.block_cache.specs.Cached.{AreStretches};
 ghost use Rattle.journal_model.specs.Journal.{AreNumbered};
 ghost use Rattle.journal_reads.specs.Stretches.{entries_from};
 ghost use Rattle.library_core.specs.Reads.{HasRead};
 
-use crate::kinds;
 use crate::told::is_told;
+use block_cache::BlockCache;
 use commitment_requests::library_parts::Contents;
 use entry_codec::Entry;
 use journal_book::BookFault;
 use journal_reads::Stretch;
 use journal_requests::display_wanted;
 use kept_journal::KeptJournal;
-use library_model::requests::Request;
+use library_model::requests::{JournaledChanges, Request};
 use range_requests::{RangeWanted, breaks, range_wanted};
 use store_model::Store;
 
@@ -38,30 +39,8 @@ pub(crate) enum ReadFault {
     BlockChanged { sequence: u64 },
 }
 
-/// The stretch of the journal that the request reads; an empty one where it reads none.
-pub(crate) fn read_for<S: Store>(
-    contents: &Contents,
-    journal: &KeptJournal,
-    store: &mut S,
-    request: &Request,
-) -> Result<Stretch, ReadFault>
-    requires kept { (s : State) × IsRemembered S.tells (S.disk store.old) journal.now contents.now.state s }
-    ensures read { (s : State) → IsRemembered S.tells (S.disk store.old) journal.now contents.now.state s → HasRead S.tells s result }
-    ensures stays { Stays (S.disk store.old) (S.disk store.new) }
-    ensures wants { IsErr result → needs_memory request.now ≡ true }
-    ensures cause { IsErrOf result ReadFault.StoreFault → Rose (S.disk store.old).faults (S.disk store.new).faults }
-    ensures unread { (sequence : ℕ) → IsErrOf result (ReadFault.BlockChanged sequence) → reads_journal request.now ≡ true }
-    ensures untold { (sequence : ℕ) → IsErrOf result (ReadFault.BlockChanged sequence) → S.tells → ⊥ }
-{
-    if kinds::reads_journal(request) {
-        read_stretch(contents, journal, store, request)
-    } else {
-        Ok(nothing_read(contents))
-    }
-}
-
 /// Nothing was read.
-fn nothing_read(contents: &Contents) -> Stretch
+pub(crate) fn nothing_read(contents: &Contents) -> Stretch
     ensures { result ≡ entries_from (contents.now.state.gone + 1) [] }
 {
     let (first, _) = contents.bounds();
@@ -69,27 +48,29 @@ fn nothing_read(contents: &Contents) -> Stretch
 }
 
 /// What DSPJRN, APYJRNCHG or RMVJRNCHG reads.
-fn read_stretch<S: Store>(
+pub(crate) fn read_stretch<S: Store>(
     contents: &Contents,
     journal: &KeptJournal,
+    cache: &mut BlockCache,
     store: &mut S,
     request: &Request,
 ) -> Result<Stretch, ReadFault>
-    requires reads { reads_journal request.now ≡ true }
     requires kept { (s : State) × IsRemembered S.tells (S.disk store.old) journal.now contents.now.state s }
+    requires cached { S.tells → (all : List Entry) → Holds journal.now all (S.disk store.old) → AreStretches journal.now.first all cache.old }
     ensures read { (s : State) → IsRemembered S.tells (S.disk store.old) journal.now contents.now.state s → HasRead S.tells s result }
     ensures stays { Stays (S.disk store.old) (S.disk store.new) }
     ensures cause { IsErrOf result ReadFault.StoreFault → Rose (S.disk store.old).faults (S.disk store.new).faults }
     ensures untold { (sequence : ℕ) → IsErrOf result (ReadFault.BlockChanged sequence) → S.tells → ⊥ }
+    ensures cached { S.tells → (all : List Entry) → Holds journal.now all (S.disk store.new) → AreStretches journal.now.first all cache.new }
 {
     match request {
         Request::DisplayJournal(args) => match display_wanted(contents, args) {
-            Some((from, to)) => read_between(contents, journal, store, from, to),
+            Some((from, to)) => read_between(contents, journal, cache, store, from, to),
             None => Ok(nothing_read(contents)),
         },
         Request::ApplyChanges(args) | Request::RemoveChanges(args) => {
-            match range_wanted(contents, args) {
-                Some(wanted) => read_range(contents, journal, store, wanted),
+            match wanted_of(contents, request, args) {
+                Some(wanted) => read_range(contents, journal, cache, store, wanted),
                 None => Ok(nothing_read(contents)),
             }
         }
@@ -97,10 +78,28 @@ fn read_stretch<S: Store>(
     }
 }
 
+/// What a range wants of the journal. RMVJRNCHG names it from its end back.
+fn wanted_of(
+    contents: &Contents,
+    request: &Request,
+    args: &JournaledChanges,
+) -> Option<RangeWanted> {
+    let wanted = range_wanted(contents, args)?;
+    match request {
+        Request::RemoveChanges(_) => Some(RangeWanted {
+            member: wanted.member,
+            from: wanted.to,
+            to: wanted.from,
+        }),
+        _ => Some(wanted),
+    }
+}
+
 /// The entries of these sequences, which are kept.
 fn read_between<S: Store>(
     contents: &Contents,
     journal: &KeptJournal,
+    cache: &mut BlockCache,
     store: &mut S,
     from: u64,
     to: u64,
@@ -110,19 +109,64 @@ fn read_between<S: Store>(
     requires order { from ≤ to }
     requires last { to ≤ (memory_of contents.now.state).last_entry }
     requires few { to + 1 < 2 ^ 64 }
+    requires cached { S.tells → (all : List Entry) → Holds journal.now all (S.disk store.old) → AreStretches journal.now.first all cache.old }
     ensures read { (s : State) → IsRemembered S.tells (S.disk store.old) journal.now contents.now.state s → HasRead S.tells s result }
     ensures stays { Stays (S.disk store.old) (S.disk store.new) }
     ensures cause { IsErrOf result ReadFault.StoreFault → Rose (S.disk store.old).faults (S.disk store.new).faults }
     ensures untold { (sequence : ℕ) → IsErrOf result (ReadFault.BlockChanged sequence) → S.tells → ⊥ }
+    ensures cached { S.tells → (all : List Entry) → Holds journal.now all (S.disk store.new) → AreStretches journal.now.first all cache.new }
 {
-    match journal.entries(contents.alloc(), store, from, to) {
-        Ok(entries) => match judged(contents, from, to, entries) {
-            Ok(stretch) => Ok(stretch),
-            Err(sequence) => Err(ReadFault::BlockChanged {
-                sequence: journal.block_of(sequence),
-            }),
-        },
+    match entries_between(contents, journal, cache, store, from, to) {
+        Ok(entries) => stretch_read(contents, journal, from, to, entries),
         Err(fault) => Err(fault_of(fault)),
+    }
+}
+
+/// The entries of these sequences, through the cache.
+fn entries_between<S: Store>(
+    contents: &Contents,
+    journal: &KeptJournal,
+    cache: &mut BlockCache,
+    store: &mut S,
+    from: u64,
+    to: u64,
+) -> Result<Vec<Entry>, BookFault>
+    requires held { S.tells → IsHeld journal.now (S.disk store.old) }
+    requires cached { S.tells → (all : List Entry) → Holds journal.now all (S.disk store.old) → AreStretches journal.now.first all cache.old }
+    ensures entries { IfOk result (λ found. S.tells → (all : List Entry) → Holds journal.now all (S.disk store.old) → found.items ≡ between journal.now.first from to all) }
+    ensures there { from ≤ to → 1 ≤ from → to ≤ last_of journal.now → IsErrOf result BookFault.NoSuchEntry → ⊥ }
+    ensures kept { journal.now.first ≤ from → (sequence : ℕ) → IsErrOf result (BookFault.ReceiverGone sequence) → ⊥ }
+    ensures whole { (sequence area at : ℕ) → IsErrOf result (BookFault.BlockChanged sequence area at) → S.tells → ⊥ }
+    ensures stays { Stays (S.disk store.old) (S.disk store.new) }
+    ensures cause { IsErrOf result BookFault.StoreFault → Rose (S.disk store.old).faults (S.disk store.new).faults }
+    ensures cached { S.tells → (all : List Entry) → Holds journal.now all (S.disk store.new) → AreStretches journal.now.first all cache.new }
+{
+    cache.entries(contents.alloc(), store, journal.book(), from, to)
+}
+
+/// The stretch of what was read of these sequences, where it may be so; else the block of an entry that may not.
+fn stretch_read(
+    contents: &Contents,
+    journal: &KeptJournal,
+    from: u64,
+    to: u64,
+    entries: Vec<Entry>,
+) -> Result<Stretch, ReadFault>
+    requires first { journal.now.first ≤ from }
+    requires order { from ≤ to }
+    requires few { to + 1 < 2 ^ 64 }
+    ensures stretch { IfOk result (λ stretch. stretch ≡ entries_from from entries.items) }
+    ensures long { OnOk result (length entries.items ≡ to + 1 - from) }
+    ensures numbered { OnOk result (AreNumbered from entries.items) }
+    ensures told { OnOk result (AllByRecursion (IsTold contents.now.state.files) entries.items) }
+    ensures other { IsErr result → length entries.items ≡ to + 1 - from → AreNumbered from entries.items → AllByRecursion (IsTold contents.now.state.files) entries.items → ⊥ }
+    ensures changed { IsErrOf result ReadFault.StoreFault → ⊥ }
+{
+    match judged(contents, from, to, entries) {
+        Ok(stretch) => Ok(stretch),
+        Err(sequence) => Err(ReadFault::BlockChanged {
+            sequence: journal.block_of(sequence),
+        }),
     }
 }
 
@@ -156,10 +200,10 @@ fn judged(contents: &Contents, from: u64, to: u64, entries: Vec<Entry>) -> Resul
     if entries.len() as u64 != to - from + 1 {
         return Err(from);
     }
-    if let Some(at) = first_untold(contents, entries.as_slice()) {
-        return Err(from + at as u64);
+    match first_untold(contents, entries.as_slice()) {
+        Some(at) => Err(from + at as u64),
+        None => Stretch::new(from, entries).ok_or(from),
     }
-    Stretch::new(from, entries).ok_or(from)
 }
 
 /// The place of the first entry that names a member which a file has and doesn't tell of records of that file, at places that they may have.
@@ -182,14 +226,17 @@ fn first_untold(contents: &Contents, entries: &[Entry]) -> Option<usize>
 fn read_range<S: Store>(
     contents: &Contents,
     journal: &KeptJournal,
+    cache: &mut BlockCache,
     store: &mut S,
     wanted: RangeWanted,
 ) -> Result<Stretch, ReadFault>
     requires kept { (s : State) × IsRemembered S.tells (S.disk store.old) journal.now contents.now.state s }
+    requires cached { S.tells → (all : List Entry) → Holds journal.now all (S.disk store.old) → AreStretches journal.now.first all cache.old }
     ensures read { (s : State) → IsRemembered S.tells (S.disk store.old) journal.now contents.now.state s → HasRead S.tells s result }
     ensures stays { Stays (S.disk store.old) (S.disk store.new) }
     ensures cause { IsErrOf result ReadFault.StoreFault → Rose (S.disk store.old).faults (S.disk store.new).faults }
     ensures untold { (sequence : ℕ) → IsErrOf result (ReadFault.BlockChanged sequence) → S.tells → ⊥ }
+    ensures cached { S.tells → (all : List Entry) → Holds journal.now all (S.disk store.new) → AreStretches journal.now.first all cache.new }
 {
     let (kept, last) = contents.bounds();
     if last < kept {
@@ -201,15 +248,15 @@ fn read_range<S: Store>(
                 return Ok(nothing_read(contents));
             }
             let begin = if from == kept { kept } else { from - 1 };
-            read_between(contents, journal, store, begin, to)
+            read_between(contents, journal, cache, store, begin, to)
         }
         _ => {
-            let begin = break_before(contents, journal, store, wanted.member, kept, last)?;
+            let begin = break_before(contents, journal, cache, store, wanted.member, kept, last)?;
             let begin = match wanted.from {
                 Some(from) if kept < from && from - 1 < begin => from - 1,
                 _ => begin,
             };
-            read_between(contents, journal, store, begin, last)
+            read_between(contents, journal, cache, store, begin, last)
         }
     }
 }
@@ -218,6 +265,7 @@ fn read_range<S: Store>(
 fn break_before<S: Store>(
     contents: &Contents,
     journal: &KeptJournal,
+    cache: &mut BlockCache,
     store: &mut S,
     member: u32,
     kept: u64,
@@ -228,10 +276,12 @@ fn break_before<S: Store>(
     requires order { kept ≤ last }
     requires end { last ≤ (memory_of contents.now.state).last_entry }
     requires few { last + 1 < 2 ^ 64 }
+    requires cached { S.tells → (all : List Entry) → Holds journal.now all (S.disk store.old) → AreStretches journal.now.first all cache.old }
     ensures first { IfOk result (λ begin. kept ≤ begin × begin ≤ last) }
     ensures stays { Stays (S.disk store.old) (S.disk store.new) }
     ensures cause { IsErrOf result ReadFault.StoreFault → Rose (S.disk store.old).faults (S.disk store.new).faults }
     ensures untold { (sequence : ℕ) → IsErrOf result (ReadFault.BlockChanged sequence) → S.tells → ⊥ }
+    ensures cached { S.tells → (all : List Entry) → Holds journal.now all (S.disk store.new) → AreStretches journal.now.first all cache.new }
 {
     let mut begin = last + 1;
     while kept < begin {
@@ -241,7 +291,7 @@ fn break_before<S: Store>(
         } else {
             end - (PIECE - 1)
         };
-        let stretch = read_between(contents, journal, store, begin, end)?;
+        let stretch = read_between(contents, journal, cache, store, begin, end)?;
         if has_break(stretch.entries(), member) {
             return Ok(begin);
         }

@@ -1,10 +1,8 @@
 -- A library in which jobs may begin. (Our own.)
 use Rattle.std.specs.Prelude.{◌≡◌, false, []}
-use Rattle.joint_state.specs.Sound.{IsSound}
 use Rattle.kept_library.specs.Parts.{LibraryOver}
 
--- it hasn't failed, it is sound, and no job has begun
+-- it hasn't failed, and no job has begun
 pub record IsFresh {S : Type 0} (library : LibraryOver S) : Type 0 where
   pub alive : library.failed ≡ false
-  pub sound : IsSound library.state
   pub none : library.state.jobs ≡ []

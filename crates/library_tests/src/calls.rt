@@ -26,7 +26,6 @@ use library_model::replies::Reply;
 use library_model::requests::{EndJob, EndReason, Request};
 use library_model::sources::Sources;
 use opened_library::open_library;
-use run_laws::jobs_begin_in_a_sound_library;
 use std::alloc::Global;
 use std::process::Abort;
 use store_model::MemoryStore;
@@ -71,8 +70,6 @@ fn begin_jobs(library: &mut Library<MemoryStore>, name: &Name) -> Option<Jobs>
     ensures first { IfSome result (λ jobs. IsReady jobs.first library.new) }
     ensures second { IfSome result (λ jobs. IsReady jobs.second library.new) }
 {
-    // A sound library in which its first jobs begin stays sound.
-    jobs_begin_in_a_sound_library();
     let Ok(first) = library.begin_job(name) else {
         return None;
     };

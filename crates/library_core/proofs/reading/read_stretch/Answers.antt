@@ -1,17 +1,8 @@
 use Rattle.std.proofs.Common.{arith}
 use Rattle.library_core.proofs.JudgedLemmas.{few-entries}
-use Rattle.library_core.proofs.ReadLemmas.{at-fault}
 use Rattle.library_core.proofs.reading.read_stretch.Goals as goal
 
 pub read_between-requires-clause-few : goal.read_between-requires-clause-few
 read_between-requires-clause-few g c =
     let few = few-entries g.S.Store.tells (g.S.Store.disk c.args.store.now) c.args.journal.now c.args.contents.now.state c.requires.kept.0 c.requires.kept.1 in
     omega (arith, few, c.in-Some.ensures.there)
-
-pub returns-in-Some-clause-cause : goal.returns-in-Some-clause-cause
-returns-in-Some-clause-cause g c = λ bad.
-    at-fault g.S.Store.tells (g.S.Store.disk c.args.store.now) (g.S.Store.disk c.read_between.new.store) c.args.request.now c.requires.reads (c.read_between.ensures.cause bad)
-
-pub returns-in-Some-range_wanted-clause-cause : goal.returns-in-Some-range_wanted-clause-cause
-returns-in-Some-range_wanted-clause-cause g c = λ bad.
-    at-fault g.S.Store.tells (g.S.Store.disk c.args.store.now) (g.S.Store.disk c.read_range.new.store) c.args.request.now c.requires.reads (c.read_range.ensures.cause bad)

@@ -11,4 +11,4 @@ call-reply-requires-clause-ready c =
 pub invariant_of-self : goal.invariant_of-self
 invariant_of-self c =
     let alive = sym c.failed.ensures.failed ∙ c.if-failed.false in
-    (λ still. AreReady-on _ c.args.job _ _ _ (c.self.invariant.0 alive) c.as_request.ensures.goes_on still c.call-reply.ensures.running c.call-reply.ensures.kept, c.self.invariant.1)
+    (λ still. AreReady-on _ c.args.job _ _ _ (c.self.invariant.0 alive) c.as_request.ensures.goes_on still c.call-reply.ensures.running, c.self.invariant.1)

@@ -2,7 +2,7 @@ use Rattle.library_core.proofs.LibraryLemmas.{same-library}
 use Rattle.library_core.proofs.library.Library.of.Goals as goal
 
 pub invariant_of-result : goal.invariant_of-result
-invariant_of-result g c = λ alive. c.into_parts-store.ensures.kept
+invariant_of-result g c = (λ alive. c.into_parts-store.ensures.kept, λ alive told all holds. tt)
 
 pub returns : goal.returns
 returns g c =
