@@ -180,7 +180,7 @@ module _ (tells : Type 0) (old : Disk) (before roomy : BookState) (s : State) (r
           receiver = taken.receiver ∙ more.receiver;
           roots = taken.roots;
           faults = taken.faults;
-          cause = λ failed. inl (taken.cause bad);
+          cause = λ failed. taken.cause bad;
         }
 
         pub done-forced : IsOk put → c.forced ≡ true → later.waiting ≡ 0

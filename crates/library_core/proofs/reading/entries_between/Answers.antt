@@ -1,4 +1,4 @@
-use Rattle.std.proofs.Common.{◌≡◌, ◌+◌, ◌≤◌, ℕ, List, sym, subst}
+use Rattle.std.proofs.Common.{◌≡◌, ◌≤◌, ℕ, List, sym, subst}
 use Rattle.std.specs.Prelude.{IfOk, IsErrOf}
 use Rattle.entry_codec.specs.declared.entries.Entry.{Entry}
 use Rattle.journal_book.specs.Book.{BookState, Holds, IsHeld, last_of}

@@ -13,7 +13,7 @@ entries-requires-3 g c = record {
   held = λ tells. ∥∥₁_map (c.requires.held tells) (λ has. (
     has.0,
     stays_holds c.args.book.now has.0 (g.S.Store.disk c.entries.new.store) (g.S.Store.disk c.entries-2.new.store) c.entries-2.ensures.stays
-    (stays_holds c.args.book.now has.0 (g.S.Store.disk c.args.store.now) (g.S.Store.disk c.entries.new.store) c.entries.ensures.stays has.1),
+        (stays_holds c.args.book.now has.0 (g.S.Store.disk c.args.store.now) (g.S.Store.disk c.entries.new.store) c.entries.ensures.stays has.1),
   ));
   cached = c.entries-2.ensures.cached;
 }
