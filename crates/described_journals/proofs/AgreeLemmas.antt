@@ -45,7 +45,7 @@ module _ (source : Source) (a b : List ℕ → Option Format) (same : (name : Li
   pub physical-same : if_physical (physical_of a source) ≡ if_physical (physical_of b source)
   physical-same = if-same (physical_of a source) (physical_of b source) refl refl
 
-abbrev format_found : Option FileState → Option Format
+abbrev pub format_found : Option FileState → Option Format
 format_found o = option_map (λ (spec : PhysicalSpec). spec.format) (option_and_then (λ (file : FileState). physical_in file.spec) o)
 
 wanted-last : (name : List ℕ) (wanted : List Source) (source : Source) → refers_to name source ≡ true → is_wanted name (wanted ++ source ∷ []) ≡ true
@@ -67,10 +67,10 @@ beside-same a b text wanted same = by (source_of text) same
 
 -- ---- files
 
-none-some : {X : Type 0} {x : X} → None ≡ Some x → ⊥
+pub none-some : {X : Type 0} {x : X} → None ≡ Some x → ⊥
 none-some e = absurd cc
 
-some-same : {X : Type 0} {a b : X} → Some a ≡ Some b → a ≡ b
+pub some-same : {X : Type 0} {a b : X} → Some a ≡ Some b → a ≡ b
 some-same e = cc
 
 -- the wanted names find the same

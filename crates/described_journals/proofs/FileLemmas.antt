@@ -33,11 +33,11 @@ pub described-other : (file : CatalogFile) (o : Option FileSpec) (before : Named
 described-other file None before name differs = refl
 described-other file (Some spec) before name differs = named-more before name file.name (record { source = file.source; spec = spec; members = [] }) differs
 
-abbrev or-else : Option FileState → Option FileState → Option FileState
+abbrev pub or-else : Option FileState → Option FileState → Option FileState
 or-else None other = other
 or-else (Some file) other = Some file
 
-named-last : (before : Named FileState) (name : List ℕ) (entry : List ℕ × FileState)
+pub named-last : (before : Named FileState) (name : List ℕ) (entry : List ℕ × FileState)
     → named name (before ++ entry ∷ []) ≡ or-else (named name before) (cond (same_name name entry.0) (Some entry.1) None)
 named-last [] name entry = refl
 named-last (first ∷ before) name entry =

@@ -3,3 +3,4 @@ pub mod NamedLemmas
 pub mod AgreeLemmas
 pub mod PlaceLemmas
 pub mod RecordLemmas
+pub mod SettledLemmas

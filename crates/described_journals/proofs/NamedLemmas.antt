@@ -1,5 +1,5 @@
 -- What a source names.
-use Rattle.std.proofs.Common.{◌≡◌, ℕ, ◌||◌, ◌&&◌, if◌then◌else◌, Bool, true, false, Option, Some, None, IfSome, List, [], ◌∷◌, refl, ◌∙◌, ap, codes}
+use Rattle.std.proofs.Common.{◌≡◌, ℕ, ◌||◌, ◌&&◌, if◌then◌else◌, Bool, true, false, Option, Some, None, IfSome, option_to_list, List, [], ◌∷◌, ◌++◌, refl, ◌∙◌, ap, codes}
 use Rattle.std.specs.List.{AllByRecursion, before_first, cons_option, filter_map, list_any}
 use Rattle.std.specs.Str.{bytes_eq}
 use Rattle.std.proofs.lemmas.Cmp.{nat_list_eq_equiv}
@@ -12,7 +12,8 @@ use Rattle.dds_physical.specs.Keywords.{arguments_of, first_named}
 use Rattle.dds_physical.specs.References.{any_refers_to, file_of_keyword, is_named, keyword_refers_to, line_refers_to, place_is, reference_file, refers_to}
 use Rattle.dds_logical.specs.FormatLines.{FormatLines, formats_in, is_join_file}
 use Rattle.dds_logical.specs.Logical.{base_name}
-use Rattle.named_bases.specs.Sources.{base_files, file_in_keyword, file_of_line, second_name}
+use Rattle.entry_codec.specs.declared.kinds.FileKind.TheVariants.{Physical}
+use Rattle.named_bases.specs.Sources.{base_files, file_in_keyword, file_of_line, names_by, second_name}
 use Rattle.restart_laws.proofs.ReferenceLemmas.{NamesOnly}
 use Rattle.described_journals.specs.Named.{first_joined, named_argument, named_base}
 
@@ -88,3 +89,7 @@ names-only source = record {
   lines = lines-named (λ (name : List ℕ). refers_to name source ≡ true) source.specifications
       (λ name is. or-right (is_named name (reference_file source.file)) (any_refers_to name source.specifications) is);
 }
+
+-- it names none
+pub none-named : (source : Source) → reference_file source.file ≡ None → filter_map file_of_line source.specifications ≡ [] → names_by Physical source ≡ []
+none-named source file lines = λ i. option_to_list (file i) ++ lines i

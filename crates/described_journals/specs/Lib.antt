@@ -1,3 +1,4 @@
 pub mod Needed
 pub mod Files
 pub mod Named
+pub mod Kept

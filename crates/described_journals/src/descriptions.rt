@@ -1,7 +1,7 @@
 //! The rules by which a journal is replayed: those of data descriptions.
-ghost use Rattle.std.specs.Prelude.{◌≡◌};
-ghost use Rattle.named_bases.specs.Sources.{descriptions, is_record_of};
+ghost use Rattle.named_bases.specs.Sources.{descriptions};
 
+use crate::kept::{KeptDescription, is_record, record_length};
 use crate::naming::names;
 use crate::needed::physical_beside;
 use crate::reading::logical_beside;
@@ -9,14 +9,25 @@ use crate::whole::described_files;
 use entry_codec::FileKind;
 use field_types::names::Name;
 use field_types::texts::{Image, SourceText};
-use record_fmt::formats::Format;
 use replay_files::{Describe, Files};
 use std::alloc::{AllocError, Global};
+use std::cell::RefCell;
 
-/// Reads data descriptions, in memory of this allocator. It keeps nothing between two calls.
-#[derive(Clone, Copy)]
+/// Reads data descriptions, in memory of this allocator. What a physical file's source describes is kept for the next call.
+#[derive(Drop)]
 pub struct DataDescriptions {
-    pub alloc: Global,
+    alloc: Global,
+    kept: RefCell<Vec<KeptDescription>>,
+}
+
+impl DataDescriptions {
+    /// Nothing was read yet.
+    pub fn new(alloc: Global) -> DataDescriptions {
+        DataDescriptions {
+            alloc,
+            kept: RefCell::new(Vec::new(alloc)),
+        }
+    }
 }
 
 impl Describe for DataDescriptions {
@@ -48,11 +59,11 @@ impl Describe for DataDescriptions {
         names(self.alloc, kind, source, name)
     }
 
-    /// The source is read, and those files are described anew that it names, and that these name.
+    /// Where the source isn't kept, it is read, and those files are described anew that it names, and that these name.
     fn record_length(&self, files: &Files, source: &SourceText) -> Result<u32, AllocError> {
-        match physical_beside(self.alloc, files, source)? {
-            None => Ok(0),
-            Some(spec) => Ok(spec.format.length()),
+        match self.kept.try_borrow_mut() {
+            Ok(mut kept) => record_length(self.alloc, &mut kept, files, source),
+            Err(_) => record_length(self.alloc, &mut Vec::new(self.alloc), files, source),
         }
     }
 
@@ -63,16 +74,9 @@ impl Describe for DataDescriptions {
         source: &SourceText,
         image: &Image,
     ) -> Result<bool, AllocError> {
-        match physical_beside(self.alloc, files, source)? {
-            None => Ok(image.as_bytes().is_empty()),
-            Some(spec) => Ok(is_record_of(&spec.format, image.as_bytes())),
+        match self.kept.try_borrow_mut() {
+            Ok(mut kept) => is_record(self.alloc, &mut kept, files, source, image),
+            Err(_) => is_record(self.alloc, &mut Vec::new(self.alloc), files, source, image),
         }
     }
-}
-
-/// Whether the bytes are a record of the format: as long, with a value in each field.
-fn is_record_of(format: &Format, image: &[u8]) -> bool
-    ensures { result ≡ is_record_of format.now.fields image.now }
-{
-    image.len() == format.length() as usize && format.first_bad(image).is_none()
 }

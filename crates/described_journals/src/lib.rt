@@ -4,9 +4,12 @@
 
 pub mod described;
 mod descriptions;
+mod kept;
 mod naming;
 mod needed;
 mod reading;
+mod records;
+mod settled;
 mod whole;
 
 pub use described::{DescribedFile, DescribedFiles};

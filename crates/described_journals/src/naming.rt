@@ -1,5 +1,5 @@
 //! Which files a source names, whether or not something is wrong with it.
-ghost use Rattle.std.specs.Prelude.{◌≡◌, List, IfOk, codes};
+ghost use Rattle.std.specs.Prelude.{◌≡◌, true, List, [], IfOk, codes};
 ghost use Rattle.std.specs.List.{filter_map, list_any};
 ghost use Rattle.std.specs.Option.{option_copied};
 ghost use Rattle.std.specs.Str.{bytes_eq};
@@ -9,9 +9,9 @@ ghost use Rattle.dds_physical.specs.KeywordRules.{argument_name};
 ghost use Rattle.dds_logical.specs.FormatLines.{based_on, formats_in, is_join_file, is_join_keyword};
 ghost use Rattle.dds_logical.specs.Logical.{base_name};
 ghost use Rattle.dds_logical.specs.Origins.{keyword_names};
-ghost use Rattle.dds_physical.specs.References.{file_of};
-ghost use Rattle.named_bases.specs.Sources.{base_files, names_by, names_if};
-ghost use Rattle.entry_codec.specs.declared.kinds.FileKind.TheVariants.{Logical};
+ghost use Rattle.dds_physical.specs.References.{file_of, reference_file};
+ghost use Rattle.named_bases.specs.Sources.{base_files, file_of_line, names_by, names_if, second_name};
+ghost use Rattle.entry_codec.specs.declared.kinds.FileKind.TheVariants.{Physical, Logical};
 ghost use Rattle.described_journals.specs.Named.{first_joined, named_argument, named_base};
 
 use dds_physical::refers_to;
@@ -47,6 +47,85 @@ fn source_names(kind: FileKind, source: &Source, name: &Name) -> bool
         FileKind::Logical => is_over(source.specifications.as_slice(), name),
     }
 }
+
+// ---- a physical file's source
+
+/// Whether it names no file.
+pub(crate) fn names_nothing(source: &Source) -> bool
+    ensures { result ≡ true → names_by Physical source.now ≡ [] }
+{
+    match reference_file(source.file.as_slice()) {
+        Some(_) => false,
+        None => lines_name_nothing(source.specifications.as_slice()),
+    }
+}
+
+fn lines_name_nothing(lines: &[Specification]) -> bool
+    ensures { result ≡ true → filter_map file_of_line lines.now ≡ [] }
+{
+    let mut rest = lines;
+    while let [line, more @ ..] = rest {
+        if file_of_line(line).is_some() {
+            return false;
+        }
+        rest = more;
+    }
+    true
+}
+
+/// The file that REF names.
+pub(crate) fn reference_file(keywords: &[Keyword]) -> Option<Name>
+    ensures { result ≡ reference_file keywords.now }
+{
+    match first_named(b"REF", keywords) {
+        Some(keyword) => first_name(arguments_of(keyword)),
+        None => None,
+    }
+}
+
+fn first_name(arguments: &[Argument]) -> Option<Name>
+    ensures { result ≡ file_of arguments.now }
+{
+    match arguments {
+        [file, ..] => argument_name(file),
+        [] => None,
+    }
+}
+
+/// The file that REFFLD names in a line.
+pub(crate) fn file_of_line(line: &Specification) -> Option<Name>
+    ensures { result ≡ file_of_line line.now }
+{
+    match first_named(b"REFFLD", line.keywords.as_slice()) {
+        Some(keyword) => second_name(arguments_of(keyword)),
+        None => None,
+    }
+}
+
+/// The second of two arguments.
+fn second_name(arguments: &[Argument]) -> Option<Name>
+    ensures { result ≡ second_name arguments.now }
+{
+    match arguments {
+        [_, place] => argument_name(place),
+        _ => None,
+    }
+}
+
+fn argument_name(argument: &Argument) -> Option<Name>
+    ensures { result ≡ argument_name argument.now }
+{
+    match argument {
+        Argument::Name(name) => Some(*name),
+        Argument::Number(_)
+        | Argument::Special(_)
+        | Argument::Word(_)
+        | Argument::Quoted(_)
+        | Argument::Hexadecimal(_) => None,
+    }
+}
+
+// ---- a logical file's source
 
 /// Whether PFILE or JFILE names the file.
 fn is_over(specifications: &[Specification], name: &Name) -> bool

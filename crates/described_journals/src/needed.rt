@@ -38,7 +38,7 @@ pub(crate) fn physical_beside(
 }
 
 /// The same of a source that was read.
-fn described(
+pub(crate) fn described(
     alloc: Global,
     files: &Files,
     source: &Source,
@@ -49,7 +49,7 @@ fn described(
     spec_over(alloc, &named, source)
 }
 
-fn spec_over(
+pub(crate) fn spec_over(
     alloc: Global,
     files: &DescribedFiles,
     source: &Source,

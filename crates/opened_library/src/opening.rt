@@ -25,7 +25,7 @@ pub fn open_library<S: Store>(alloc: Global, store: S) -> Result<KeptLibrary<S>,
     descriptions_keep_lengths();
     restarted_libraries_are_sound();
     let mut store = store;
-    let by = DataDescriptions { alloc };
+    let by = DataDescriptions::new(alloc);
     match restart_journal(alloc, &mut store, &by, &restarter()) {
         Err(fault) => Err((fault, store)),
         Ok(restarted) => build_library(alloc, store, restarted),

@@ -2,7 +2,7 @@ use Rattle.std.proofs.Common.{rules, ◌≡◌, ◌∙◌, ◌==◌, None, lengt
 use Rattle.entry_codec.specs.declared.kinds.FileKind.TheVariants.{Physical}
 use Rattle.named_bases.specs.Sources.{described_files, fields_if, is_record_of, spec_beside}
 use Rattle.described_journals.proofs.RecordLemmas.{no-record}
-use Rattle.described_journals.proofs.descriptions.DataDescriptionsDescribe.is_record.Goals as goal
+use Rattle.described_journals.proofs.kept.is_record.Goals as goal
 
 pub returns-in-None : goal.returns-in-None
 returns-in-None c =

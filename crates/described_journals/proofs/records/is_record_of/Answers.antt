@@ -4,7 +4,7 @@ use Rattle.std.specs.Option.{is_some}
 use Rattle.record_fmt.specs.Layout.{record_length}
 use Rattle.record_fmt.specs.Records.{record_held}
 use Rattle.described_journals.proofs.RecordLemmas.{record-is, told-first}
-use Rattle.described_journals.proofs.descriptions.is_record_of.Goals as goal
+use Rattle.described_journals.proofs.records.is_record_of.Goals as goal
 
 pub returns-then-image-length : goal.returns-then-image-length
 returns-then-image-length c =
