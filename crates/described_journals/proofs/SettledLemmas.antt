@@ -1,5 +1,5 @@
 -- Files that describe the same beside any files: a source that names no others describes the same wherever they are there.
-use Rattle.std.proofs.Common.{◌≡◌, ℕ, ◌||◌, cond, Bool, true, false, Option, Some, None, option_to_list, Result, Ok, Err, List, [], ◌∷◌, ◌++◌, refl, sym, ◌∙◌, ap, subst}
+use Rattle.std.proofs.Common.{◌≡◌, ℕ, ◌||◌, cond, Bool, true, false, Option, Some, None, option_to_list, Result, Ok, List, [], ◌∷◌, ◌++◌, refl, sym, ◌∙◌, ap, subst}
 use Rattle.std.specs.Prelude.{is_some}
 use Rattle.std.specs.List.{AllByRecursion, cons_option, find, list_any}
 use Rattle.std.specs.Option.{option_map}
@@ -13,7 +13,6 @@ use Rattle.dds_source.specs.declared.specifications.Source.{Source}
 use Rattle.dds_source.specs.Reading.{source_of}
 use Rattle.dds_physical.specs.declared.physical_files.PhysicalSpec.{PhysicalSpec}
 use Rattle.dds_physical.specs.Physical.{physical_of}
-use Rattle.dds_physical.specs.References.{refers_to}
 use Rattle.logical_model.specs.Bases.{FileSpec, PhysicalFile}
 use Rattle.journal_model.specs.Catalogue.{CatalogFile, is_named}
 use Rattle.lawful_states.proofs.NameLemmas.{same_name-equal, same_name-symm}

@@ -1,5 +1,5 @@
 //! Files that a physical file's source names, where each of them describes the same beside any files: as long as they are there, so does the source.
-ghost use Rattle.std.specs.Prelude.{◌≡◌, true, List, [], ◌∷◌, option_to_list, IfOk, IfSome};
+ghost use Rattle.std.specs.Prelude.{◌≡◌, true, [], ◌∷◌, option_to_list, IfOk, IfSome};
 ghost use Rattle.std.specs.List.{AllByRecursion, filter_map};
 ghost use Rattle.std.specs.Str.{bytes_eq};
 ghost use Rattle.dds_source.specs.Reading.{source_of};
