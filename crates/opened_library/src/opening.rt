@@ -22,11 +22,23 @@ pub fn open_library<S: Store>(alloc: Global, store: S) -> Result<KeptLibrary<S>,
     ensures opened { IfOk result (λ library. IsOpenedLibrary S.tells S.disk (S.disk store) (S.disk library.store) library) }
     ensures refused { IfErr result (λ refused. IsNotOpened refused.0 S.tells (S.disk store) (S.disk refused.1)) }
 {
+    let by = DataDescriptions::new(alloc);
+    open_by(alloc, store, &by)
+}
+
+/// The same, where sources are read by these descriptions.
+fn open_by<S: Store>(
+    alloc: Global,
+    store: S,
+    by: &DataDescriptions,
+) -> Result<KeptLibrary<S>, (OpenFault, S)>
+    ensures opened { IfOk result (λ library. IsOpenedLibrary S.tells S.disk (S.disk store) (S.disk library.store) library) }
+    ensures refused { IfErr result (λ refused. IsNotOpened refused.0 S.tells (S.disk store) (S.disk refused.1)) }
+{
     descriptions_keep_lengths();
     restarted_libraries_are_sound();
     let mut store = store;
-    let by = DataDescriptions::new(alloc);
-    match restart_journal(alloc, &mut store, &by, &restarter()) {
+    match restart_journal(alloc, &mut store, by, &restarter()) {
         Err(fault) => Err((fault, store)),
         Ok(restarted) => build_library(alloc, store, restarted),
     }

@@ -1,6 +1,6 @@
 use Rattle.receiver_chain.specs.Chain.{attached_of}
 use Rattle.opened_library.proofs.OpenedLemmas.{at-rest, if-opened, not-built, not-opened, restarted-by, restarts-by, sound-within}
-use Rattle.opened_library.proofs.opening.open_library.Goals as goal
+use Rattle.opened_library.proofs.opening.open_by.Goals as goal
 
 pub returns-in-Err-clause-refused : goal.returns-in-Err-clause-refused
 returns-in-Err-clause-refused g c =
