@@ -1,5 +1,5 @@
 -- What a stop leaves of a session's calls can be opened again: its roots stand as they were left by opening, and what its receivers spell can be replayed.
-use Rattle.std.proofs.Common.{◌≡◌, ◌⊎◌, inl, inr, ℕ, zero, suc, ◌+◌, ◌<◌, ◌≤◌, true, false, IsTrue, List, [], ◌∷◌, take, refl, sym, subst, arith}
+use Rattle.std.proofs.Common.{◌≡◌, inl, inr, ℕ, zero, suc, ◌<◌, true, false, IsTrue, List, [], ◌∷◌, take, refl, sym, subst, arith}
 use Rattle.std.specs.List.{list_all}
 use Rattle.store_model.specs.Disk.{Areas, Disk, Leaves, May}
 use Rattle.store_model.proofs.Runs.{leaves_less, leaves_then}
@@ -21,7 +21,7 @@ use Rattle.joint_state.specs.Sound.{IsSound}
 use Rattle.front_laws.specs.Replayed.{IsReplayed}
 use Rattle.front_laws.specs.Unsaved.{AsksNoCheckpoint, saves}
 use Rattle.front_laws.specs.Opens.{FrontsCanBeOpened}
-use Rattle.front_laws.specs.Fronts.{entries_at, IsAnswered, IsFront}
+use Rattle.front_laws.specs.Fronts.{IsAnswered, IsFront}
 use Rattle.input_scripts.specs.Askable.{is_askable_script}
 use Rattle.input_scripts.specs.declared.Scripts.{Scripts}
 use Rattle.job_runner.specs.Asked.{AreAsked}
@@ -29,7 +29,7 @@ use Rattle.job_runner.proofs.CallLemmas.{AreAsked-built}
 use Rattle.restart_model.specs.Libraries.{restart_job}
 use Rattle.restart_model.specs.Sources.{descriptions}
 use Rattle.opened_library.specs.Restarts.{MayRestart}
-use Rattle.ibmi_batch.specs.Storing.{IsAnsweredAt, IsKeptRun, IsOpenFront, MayRun}
+use Rattle.ibmi_batch.specs.Storing.{IsAnsweredAt, IsOpenFront, MayRun}
 
 -- ---- no call asks for a checkpoint
 

@@ -1,6 +1,5 @@
 -- What the requests on files and members leave: CRTPF, CRTLF, DLTF, ADDPFM, CLRPFM, RGZPFM, STRJRNPF and ENDJRNPF.
-use Rattle.std.proofs.Common.{◌≡◌, ℕ, ◌+◌, nat_le, nat_lt, not, List, [], ◌∷◌, Option, Result, Ok, Err, length, refl}
-use Rattle.std.specs.Option.{is_some}
+use Rattle.std.proofs.Common.{ℕ, List}
 use Rattle.entry_codec.specs.declared.kinds.EntryKind.{EntryKind}
 use Rattle.entry_codec.specs.declared.kinds.EntryKind.TheVariants.{MemberCleared, MemberReorganized}
 use Rattle.member_slots.specs.Member.{MemberState, cleared, reorganized}

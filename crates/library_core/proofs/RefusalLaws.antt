@@ -1,5 +1,5 @@
 -- No request is refused for want of memory or for the store's fault: such replies are the library's own.
-use Rattle.std.proofs.Common.{◌≡◌, ℕ, true, false, List, Result, Err}
+use Rattle.std.proofs.Common.{◌≡◌, ℕ, true, false, List, Err}
 use Rattle.entry_codec.specs.declared.entries.Entry.{Entry}
 use Rattle.built_requests.specs.Built.{is_built}
 use Rattle.library_model.specs.declared.replies.Reply.{Reply}

@@ -1,5 +1,5 @@
 -- What each refusal of a request tells of: the library's state, and neither want of memory nor the store's fault. Followed from one refusal to the next.
-use Rattle.std.proofs.Common.{◌≡◌, Bool, true, false, if◌then◌else◌, Option, Some, None, Result, Ok, Err, refl, subst}
+use Rattle.std.proofs.Common.{◌≡◌, Bool, true, false, if◌then◌else◌, Option, Some, None, Result, Ok, Err, subst}
 use Rattle.library_model.specs.declared.replies.Reply.{Reply}
 use Rattle.library_steps.specs.Change.{Change, does}
 use Rattle.library_steps.specs.Refusals.{◌>>=◌, found, refuse_if, refuse_with}

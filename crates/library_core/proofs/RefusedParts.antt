@@ -1,6 +1,6 @@
 -- That what several requests look up is refused by no fault.
 use Rattle.std.proofs.Common.{refl, false, true, List, [], ◌∷◌, Bool, Option, Some, None, Ok, Err, ℕ, ◌+◌}
-use Rattle.std.specs.Prelude.{nat_lt, ◌&&◌, ◌||◌, not, length, ◌-◌}
+use Rattle.std.specs.Prelude.{nat_lt, ◌&&◌, ◌||◌, not, length}
 use Rattle.library_model.specs.declared.replies.Reply.TheVariants.{NoSuchName, LimitReached, RecordInUse, HeldByGroup, DuplicateKey, WrongOpen}
 use Rattle.library_model.specs.declared.replies.Missing.TheVariants.{Name}
 use Rattle.library_model.specs.declared.replies.LimitKind.TheVariants.{Sequences, Locks, GroupChanges, GroupBytes}

@@ -1,6 +1,6 @@
 -- That the requests through an open are refused by no fault.
 use Rattle.std.proofs.Common.{◌≡◌, refl, false, true, List, Bool, Option, Some, None, Result, Ok, Err, ℕ, ◌+◌}
-use Rattle.std.specs.Prelude.{nat_lt, ◌||◌, nat_le, not, length, ◌==◌, ◌-◌}
+use Rattle.std.specs.Prelude.{nat_lt, ◌||◌, nat_le, not, length, ◌==◌}
 use Rattle.std.specs.Option.{is_some, is_none}
 use Rattle.library_model.specs.declared.replies.Reply.{Reply}
 use Rattle.library_model.specs.declared.replies.Reply.TheVariants.{NoSuchName, LimitReached, NameExists, WrongOpen, NoDefinition, NotJournaled, NotFound, PlaceInUse, MemberFull, NoCurrentRecord}

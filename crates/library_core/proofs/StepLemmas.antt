@@ -1,5 +1,5 @@
 -- What the change of each request that is built leaves: which jobs run.
-use Rattle.std.proofs.Common.{◌≡◌, ◌∙◌, ℕ, ◌-◌, false, IsTrue, List, Result, refl, sym, ap, subst}
+use Rattle.std.proofs.Common.{◌≡◌, ◌∙◌, ℕ, ◌-◌, false, IsTrue, List, Result, refl, sym, ap}
 use Rattle.entry_codec.specs.declared.entries.Entry.{Entry}
 use Rattle.built_requests.specs.Built.{is_built}
 use Rattle.library_model.specs.Ending.{is_end_job}

@@ -1,5 +1,5 @@
 //! What a request reads of the journal, before anything is done. `answering.rt` does the request then.
-ghost use Rattle.std.specs.Prelude.{◌≡◌, ◌+◌, ◌-◌, ◌≤◌, ◌<◌, ◌^◌, ℕ, true, None, List, [], length, IfErr, IfOk, IfSome, IsErr, IsErrOf, OnOk};
+ghost use Rattle.std.specs.Prelude.{◌≡◌, ◌+◌, ◌-◌, ◌≤◌, ◌<◌, ◌^◌, ℕ, None, List, [], length, IfErr, IfOk, IfSome, IsErr, IsErrOf, OnOk};
 ghost use Rattle.std.specs.List.{AllByRecursion};
 ghost use Rattle.store_model.specs.Faults.{Rose};
 ghost use Rattle.record_changes.specs.Told.{IsTold};

@@ -1,5 +1,5 @@
 //! Whether what was read of the journal tells of records as the library has them.
-ghost use Rattle.std.specs.Prelude.{◌≡◌, ℕ, true, false, Some, None, List, IfSome};
+ghost use Rattle.std.specs.Prelude.{◌≡◌, ℕ, true, false, Some, List, IfSome};
 ghost use Rattle.std.specs.List.{AllByRecursion};
 ghost use Rattle.std.specs.Option.{option_and_then, option_copied, option_map};
 ghost use Rattle.entry_codec.specs.Placing.{place};

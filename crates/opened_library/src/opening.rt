@@ -26,7 +26,7 @@ pub fn open_library<S: Store>(alloc: Global, store: S) -> Result<KeptLibrary<S>,
     open_by(alloc, store, &by)
 }
 
-/// The same, with a reader of data descriptions that keeps what it has read.
+/// The same, where sources are read by these descriptions.
 fn open_by<S: Store>(
     alloc: Global,
     store: S,
