@@ -1,12 +1,11 @@
 //! Dates, times and timestamps in *ISO form. Their rule stands in `specs/Moments.antt`.
 ghost use Rattle.std.specs.Prelude.{◌≡◌, ◌≢◌, ℕ, ◌+◌, ◌<◌, ◌≤◌, ◌^◌, true, length, slice_index, IfOk, IfErr, OnOk};
 ghost use Rattle.std.specs.Result.{result_err};
-ghost use Rattle.field_values.specs.Moments.{spelled, spells, spells_in, is_date, is_time, is_timestamp, is_moment, days_in_month};
+ghost use Rattle.field_values.specs.Moments.{spelled, spells, spells_in, is_date, is_time, is_timestamp, is_moment, days_in_month, is_leap_year};
 ghost use Rattle.field_values.specs.FirstBad.{part, TellsFirstBad, IsBadPart};
 
 use crate::{bounds, decimals};
 use decimal_order::field_types::kinds::Kind;
-use jiff::civil;
 
 const HYPHEN: u8 = 0x60;
 
@@ -104,11 +103,18 @@ fn mark(text: &[u8], at: usize, mark: u8) -> Result<(), usize>
 }
 
 fn days_in_month(year: u64, month: u64) -> u64
-    requires first_year { 1 ≤ year }
-    requires last_year { year ≤ 9999 }
-    requires first_month { 1 ≤ month }
-    requires last_month { month ≤ 12 }
     ensures { result ≡ days_in_month year month }
 {
-    civil::date(year as i16, month as i8, 1).days_in_month() as u64
+    match month {
+        2 if is_leap_year(year) => 29,
+        2 => 28,
+        4 | 6 | 9 | 11 => 30,
+        _ => 31,
+    }
+}
+
+fn is_leap_year(year: u64) -> bool
+    ensures { result ≡ is_leap_year year }
+{
+    year % 4 == 0 && (year % 100 != 0 || year % 400 == 0)
 }
