@@ -60,7 +60,7 @@ pub fn program_alone<S: Store, I: Source, O: Sink, C: Clock>(
 }
 
 /// Does what the words say on the caller's thread.
-pub(crate) fn run_alone<S: Store, I: Source, O: Sink, C: Clock>(
+fn run_alone<S: Store, I: Source, O: Sink, C: Clock>(
     alloc: Global,
     words: &[String],
     store: S,

@@ -9,6 +9,4 @@ mod reading;
 mod running;
 mod showing;
 pub mod status;
-#[cfg(test)]
-mod tests;
 pub mod words;

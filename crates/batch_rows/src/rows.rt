@@ -1,10 +1,12 @@
 //! Runs over memory: status, listing, and what a fault of the source or the sink leaves.
-use crate::batch::{program, run_alone};
-use crate::status::Status;
+use crate::runs::{does, line_of, made};
+use ibmi_batch::status::Status;
 use std::alloc::{AllocError, Global};
 use std::process::Abort;
+use std::sync::Wait;
 use std::test::Fail;
-use store_model::{Failed, MemorySink, MemorySource, MemoryStore, OpenGate, Sink, StepClock};
+use std::thread::Threads;
+use store_model::{Failed, MemorySink, MemorySource, Sink};
 
 /// The first input: a file is created, opened, written and read.
 const FIRST: &str = "\
@@ -411,51 +413,17 @@ const TEXTS: [(Status, &str); 12] = [
     (Status::Exists, "library exists"),
 ];
 
-fn words_of(alloc: Global, words: &[&str]) -> Result<Vec<String>, AllocError> {
-    let mut out = Vec::new(alloc);
-    for word in words {
-        out.push(String::from_str(alloc, word)?)?;
-    }
-    Ok(out)
-}
-
-fn line_of(status: Status) -> u32 {
-    match status {
-        Status::Script { line } => line,
-        _ => 0,
-    }
-}
-
-/// A store with a library in which nothing is.
-fn made(alloc: Global) -> Result<MemoryStore, AllocError> {
-    let words = words_of(alloc, &["INZ", "lib"])?;
-    let mut input = MemorySource::over(alloc, b"")?;
-    let mut out = MemorySink::new(alloc);
-    let (_, store, _) = run_alone(
-        alloc,
-        words.as_slice(),
-        MemoryStore::new(alloc),
-        &mut input,
-        &mut out,
-        StepClock::new(),
-    );
-    Ok(store)
-}
-
-fn row_holds(rt: &impl Abort, alloc: Global, row: &Row) -> Result<(), AllocError> {
-    let words = words_of(alloc, row.words)?;
+fn row_holds<R: Threads + Wait + Sync + Abort>(
+    rt: &R,
+    alloc: Global,
+    row: &Row,
+) -> Result<(), AllocError> {
     let mut input = MemorySource::over(alloc, row.input.as_bytes())?;
     input.fail_at(row.read_fault);
     let mut out = MemorySink::new(alloc);
     out.fail_at(row.write_fault);
-    let (status, _, _) = run_alone(
-        alloc,
-        words.as_slice(),
-        made(alloc)?,
-        &mut input,
-        &mut out,
-        StepClock::new(),
-    );
+    let store = made(rt, alloc)?;
+    let (status, _) = does(rt, alloc, row.words, store, &mut input, &mut out)?;
     assert_eq!(rt; (status.number(), line_of(status)), row.status);
     assert_eq!(rt; out.bytes(), row.written.as_bytes());
     Ok(())
@@ -470,18 +438,15 @@ fn runs_have_their_statuses_and_listings(rt: HostRuntime) -> Result<(), Fail> {
 }
 
 /// The status of a run over these bytes that writes nothing.
-fn refusal(rt: &impl Abort, alloc: Global, bytes: &[u8]) -> Result<Status, AllocError> {
-    let words = words_of(alloc, RUN)?;
+fn refusal<R: Threads + Wait + Sync + Abort>(
+    rt: &R,
+    alloc: Global,
+    bytes: &[u8],
+) -> Result<Status, AllocError> {
     let mut input = MemorySource::over(alloc, bytes)?;
     let mut out = MemorySink::new(alloc);
-    let (status, _, _) = run_alone(
-        alloc,
-        words.as_slice(),
-        made(alloc)?,
-        &mut input,
-        &mut out,
-        StepClock::new(),
-    );
+    let store = made(rt, alloc)?;
+    let (status, _) = does(rt, alloc, RUN, store, &mut input, &mut out)?;
     assert_eq!(rt; out.bytes().len(), 0);
     Ok(status)
 }
@@ -516,35 +481,19 @@ fn with_line(alloc: Global, place: usize, text: &str) -> Result<String, AllocErr
     Ok(input)
 }
 
-/// The line at fault of an input, 0 where there is none.
-fn fault_of(alloc: Global, text: &str) -> Result<u32, AllocError> {
-    let words = words_of(alloc, RUN)?;
-    let mut input = MemorySource::over(alloc, text.as_bytes())?;
-    let mut out = MemorySink::new(alloc);
-    let (status, _, _) = run_alone(
-        alloc,
-        words.as_slice(),
-        made(alloc)?,
-        &mut input,
-        &mut out,
-        StepClock::new(),
-    );
-    Ok(line_of(status))
-}
-
 /// Each row in place of its line has its fault.
-fn faults_agree(
-    rt: &impl Abort,
+fn faults_agree<R: Threads + Wait + Sync + Abort>(
+    rt: &R,
     alloc: Global,
     rows: &[(usize, &'static str, u32)],
 ) -> Result<(), AllocError> {
     for (place, text, line) in rows {
-        let input = with_line(alloc, *place, text)?;
-        assert_eq!(rt;
-            fault_of(alloc, input.as_str())?,
-            *line,
-            "line {place} as {text:?}"
-        );
+        let text_with_line = with_line(alloc, *place, text)?;
+        let mut input = MemorySource::over(alloc, text_with_line.as_bytes())?;
+        let mut out = MemorySink::new(alloc);
+        let store = made(rt, alloc)?;
+        let (status, _) = does(rt, alloc, RUN, store, &mut input, &mut out)?;
+        assert_eq!(rt; line_of(status), *line, "line {place} as {text:?}");
     }
     Ok(())
 }
@@ -561,27 +510,6 @@ fn statuses_have_their_texts(rt: HostRuntime) -> Result<(), Fail> {
     for (status, text) in TEXTS {
         assert_eq!(rt; status.to_string(rt.alloc())?.as_str(), text);
     }
-    Ok(())
-}
-
-#[test]
-fn first_input_runs_under_a_runtime(rt: HostRuntime) -> Result<(), Fail> {
-    let alloc = rt.alloc();
-    let words = words_of(alloc, RUN)?;
-    let mut input = MemorySource::over(alloc, FIRST.as_bytes())?;
-    let mut out = MemorySink::new(alloc);
-    let (status, _, _) = program(
-        &rt,
-        alloc,
-        words.as_slice(),
-        made(alloc)?,
-        &mut input,
-        &mut out,
-        StepClock::new(),
-        &OpenGate,
-    );
-    assert_eq!(rt; status.number(), 0);
-    assert_eq!(rt; out.bytes(), LISTING.as_bytes());
     Ok(())
 }
 
@@ -609,20 +537,13 @@ impl Sink for Narrow {
 #[test]
 fn fault_in_the_middle_leaves_the_first_part(rt: HostRuntime) -> Result<(), Fail> {
     let alloc = rt.alloc();
-    let words = words_of(alloc, RUN)?;
     let mut input = MemorySource::over(alloc, FIRST.as_bytes())?;
     let mut out = Narrow {
         sink: MemorySink::new(alloc),
     };
     out.sink.fail_at(4);
-    let (status, _, _) = run_alone(
-        alloc,
-        words.as_slice(),
-        made(alloc)?,
-        &mut input,
-        &mut out,
-        StepClock::new(),
-    );
+    let store = made(&rt, alloc)?;
+    let (status, _) = does(&rt, alloc, RUN, store, &mut input, &mut out)?;
     assert_eq!(rt; status.number(), 8);
     assert_eq!(rt;
         out.sink.bytes(),
