@@ -1,12 +1,12 @@
-//! Sources that describe files, and faulty ones.
+//! Sources that describe files, and the files that sources name.
 ghost use Rattle.std.specs.Prelude.{◌≡◌, Option, Some, None, if◌then◌else◌, nat_eq};
 ghost use Rattle.std.specs.Cmp.Lexicographic.{pointwise};
 
-use crate::physical_rows::{CUST, DESCRIBED, FAULTY_ENTRIES, FAULTY_KEYWORDS};
+use crate::physical_rows::{CUST, DESCRIBED};
 use dds_physical::dependents::refers_to;
-use dds_physical::physical_files::{PhysicalError, PhysicalSpec, physical};
+use dds_physical::physical_files::{PhysicalSpec, physical};
 use dds_physical::refs::Refs;
-use dds_source::{DdsCause, DdsFault, Source, read_source};
+use dds_source::{Source, read_source};
 use ebc_text::to_ascii;
 use field_types::kinds::{FieldType, Kind};
 use field_types::names::Name;
@@ -181,94 +181,6 @@ fn are_described(
 #[test]
 fn files_that_are_described(rt: HostRuntime) -> Result<(), Fail> {
     are_described(rt.alloc(), &customers(rt.alloc())?, &DESCRIBED)
-}
-
-/// Whether the source's first fault is this one.
-fn is_first(
-    alloc: Global,
-    files: &Files,
-    text: &str,
-    line: u32,
-    column: u32,
-    cause: DdsCause,
-) -> Result<bool, Fail> {
-    let wanted = DdsFault {
-        line,
-        column,
-        cause,
-    };
-    match physical(alloc, &source(alloc, text)?, files) {
-        Err(PhysicalError::Fault(fault)) => Ok(fault == wanted),
-        _ => Ok(false),
-    }
-}
-
-/// Each source has the first fault that its row says.
-fn are_first(
-    alloc: Global,
-    files: &Files,
-    rows: &[(&'static str, &'static str, u32, u32, DdsCause)],
-) -> Result<(), Fail> {
-    for (what, text, line, column, cause) in rows {
-        let wanted = is_first(alloc, files, text, *line, *column, *cause)?;
-        wanted.then_some(()).ok_or(*what)?;
-    }
-    Ok(())
-}
-
-#[test]
-fn first_faults(rt: HostRuntime) -> Result<(), Fail> {
-    let files = customers(rt.alloc())?;
-    are_first(rt.alloc(), &files, &FAULTY_ENTRIES)?;
-    are_first(rt.alloc(), &files, &FAULTY_KEYWORDS)
-}
-
-/// A source with so many fields of one byte, and so many key fields.
-fn many(alloc: Global, fields: u32, keys: u32) -> Result<String, AllocError> {
-    let mut text = String::from_str(alloc, "     A          R REC\n")?;
-    for i in 0..fields {
-        describe_many(alloc, &mut text, "     A            F", i, "1A\n")?;
-    }
-    for i in 0..keys {
-        describe_many(alloc, &mut text, "     A          K F", i, "\n")?;
-    }
-    Ok(text)
-}
-
-/// A line whose name ends in this number.
-fn describe_many(
-    alloc: Global,
-    text: &mut String,
-    front: &str,
-    number: u32,
-    back: &str,
-) -> Result<(), AllocError> {
-    let digits = number.to_string(alloc)?;
-    text.push_str(front)?;
-    text.push_str(digits.as_str())?;
-    for _ in digits.len()..14 {
-        text.push_str(" ")?;
-    }
-    text.push_str(back)
-}
-
-/// Whether each number is reached, and where it is passed.
-fn is_limited(alloc: Global) -> Result<bool, Fail> {
-    let files = customers(alloc)?;
-    let most = source(alloc, many(alloc, 1000, 32)?.as_str())?;
-    let fields = many(alloc, 1001, 0)?;
-    let keys = many(alloc, 33, 33)?;
-    Ok(
-        physical(alloc, &most, &files).is_ok()
-            && is_first(alloc, &files, fields.as_str(), 1002, 19, DdsCause::TooLarge)?
-            && is_first(alloc, &files, keys.as_str(), 67, 19, DdsCause::TooLarge)?,
-    )
-}
-
-#[test]
-fn limits(rt: HostRuntime) -> Result<(), Fail> {
-    assert!(rt; is_limited(rt.alloc())?);
-    Ok(())
 }
 
 /// A source and a file, and whether the source names it.

@@ -1,4 +1,4 @@
-//! Sources that are read, and faulty ones.
+//! Sources that are read, and a faulty one.
 use crate::source_rows::{FAULTS, LAST_LINES, READ, RISING};
 use dds_source::*;
 use field_types::values::Dec;
