@@ -2,7 +2,6 @@
 ghost use Rattle.std.specs.Prelude.{◌≡◌, ◌+◌, ◌≤◌, ◌^◌, length, IfOk, OnOk};
 ghost use Rattle.store_model.specs.Calls.{counted};
 
-use crate::commands::{JOURNALED, JOURNALED_DISPLAY};
 use crate::runs::{damage_of, made, run, run_over};
 use crate::stops::{MOST_CALLS, copied};
 use std::alloc::{AllocError, Global};
@@ -157,6 +156,33 @@ impl Store for ChangedStore {
 
     ghost fits = { λ store area told. absurd told };
 }
+
+/// A record of a member that is journaled.
+const JOURNALED: &str = "\
+//DDS CUST
+     A          R CUSTR
+     A            NAME           5A
+//JOB J1
+CRTPF FILE(CUST) SRC(CUST)
+STRJRNPF FILE(CUST)
+OPNDBF FILE(CUST) OPTION(*ALL)
+WRITE OPNID(CUST) VAL('ABC')
+//END
+";
+
+/// What DSP shows behind that run.
+const JOURNALED_DISPLAY: &str = "\
+LIBRARY SEQ(3) RCV(1)
+FILE CUST *PHY
+SRC      A          R CUSTR
+SRC      A            NAME           5A
+MBR CUST NBR(1) SLOTS(1) LIVE(1) JRN(*AFTER)
+RCD 1 'ABC  '
+ENT 1 D CT JOB(J1) AT(0) GRP(0) MBR(1) RRN(0) KIND(*PHY) NAME(CUST) LEN(60)
+ENT 2 F JM JOB(J1) AT(1) GRP(0) MBR(1) RRN(0) IMAGES(*AFTER) SLOTS(0)
+ENT 3 R PT JOB(J1) AT(3) GRP(0) MBR(1) RRN(1) IMG(1 'ABC  ')
+END
+";
 
 /// The last byte of the second entry's sequence. Its block begins at 162 and the entry at 166, in area 3.
 const SEQUENCE: (u32, u64) = (3, 177);

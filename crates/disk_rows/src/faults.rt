@@ -1,5 +1,4 @@
 //! Runs with a fault at each call of their store in turn, and restarts that are stopped at each of theirs.
-use crate::commands::SETUP;
 use crate::runs::{made, run};
 use crate::stops::{
     ABC, ABCD, MOST_CALLS, ONE_JOB, READING, Run, TWO_JOBS, acknowledged, copied, fresh,
@@ -77,6 +76,21 @@ fn reads_of_the_journal_survive_each_fault(rt: HostRuntime) -> Result<(), Fail> 
     faults_are_survived(&rt, rt.alloc(), READING)?;
     Ok(())
 }
+
+/// Three records, of a member that has both images journaled.
+const SETUP: &str = "\
+//DDS CUST
+     A          R CUSTR
+     A            NAME           5A
+//JOB J1
+CRTPF FILE(CUST) SRC(CUST)
+STRJRNPF FILE(CUST) IMAGES(*BOTH)
+OPNDBF FILE(CUST) OPTION(*ALL)
+WRITE OPNID(CUST) VAL('A')
+WRITE OPNID(CUST) VAL('B')
+WRITE OPNID(CUST) VAL('C')
+//END
+";
 
 /// Five calls over the library of a run before: the same entries are read twice.
 const TWICE: Run = Run {

@@ -6,11 +6,10 @@ use std::sync::Wait;
 use std::thread::Threads;
 use store_model::{MemorySink, MemorySource, MemoryStore, OpenGate, StepClock, Store};
 
-/// What came of a command: its status, where the store is damaged, what it wrote, and the store.
+/// What came of a command: its status, what it wrote, and the store.
 #[derive(Drop)]
 pub(crate) struct Outcome {
     pub(crate) status: u8,
-    pub(crate) damage: Option<(u32, u64)>,
     pub(crate) written: MemorySink,
     pub(crate) store: MemoryStore,
 }
@@ -34,7 +33,6 @@ pub(crate) fn run<R: Threads + Wait + Sync>(
     let (status, written, store) = run_over(rt, alloc, store, command, input)?;
     Ok(Outcome {
         status: status.number(),
-        damage: damage_of(status),
         written,
         store,
     })
